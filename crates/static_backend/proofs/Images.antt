@@ -12,7 +12,7 @@ use Rattle.staged_meaning.specs.Program.{Program, Tick}
 use Rattle.static_image.specs.Layout.{Placed, front, behind, starts, rows_of, addresses_of, image_of}
 use Rattle.static_image.specs.Served.{AreStatic, IsImaged}
 use Rattle.static_image.specs.Laws.{ImagesKeepRules}
-use Rattle.static_image.proofs.Whole.{main_low}
+use Rattle.static_image.proofs.Bounds.{main_low}
 use Rattle.static_backend.specs.Scanned.{IsScanned, AreCode, HasMain}
 use Rattle.static_backend.proofs.Grown.{length_rows, length_functions}
 

@@ -1,14 +1,12 @@
 pub mod Appended
-pub mod Faultless
 pub mod Arriving
 pub mod Serving
 pub mod Unaddressed
 pub mod Anywhere
 pub mod Placing
-pub mod Tables
 pub mod Lows
 pub mod Front
 pub mod Blocks
 pub mod Generated
-pub mod Whole
+pub mod Bounds
 pub mod Rules

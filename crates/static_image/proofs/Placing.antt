@@ -149,6 +149,7 @@ pub record IsThere (c : Code) (a : ℕ) (f : Function) (places : List ℕ) : Typ
   pub stands : Stands c f places
   pub served : (p : ℕ) → IsServed (op_at f.ops p)
   pub whole : f.object % 4 ≡ 0
+  pub below : past a (standing.code_of f places) ≤ ARENA
 
 module _ (fs : List node.Function) (kinds : List (List CaptureKind)) (d : Addresses) (low_calls : AreLow d kinds) where
   pub suits : (at : ℕ) (x : Placed) → Static fs kinds x → IsLegalChoice d x → at % 4 ≡ 0 →
@@ -184,6 +185,7 @@ module _ (fs : List node.Function) (kinds : List (List CaptureKind)) (d : Addres
             (start.words_there pre (words_of d at x) rest at is);
         served = served;
         whole = static.ready.whole;
+        below = omega (arith, ends, low);
       }
 
   -- whether the first of functions has the address settles which one is found

@@ -28,7 +28,7 @@ use Rattle.static_image.proofs.Serving.{AreLow, ops_served}
 use Rattle.static_image.proofs.Blocks.{FitsBlock, blocks, routines, routines_fit, routine_words_are}
 use Rattle.static_image.proofs.Generated as generated
 use Rattle.static_image.proofs.Placing.{Static, ends_rise, ends_at, some_words, staged, suits}
-use Rattle.static_image.proofs.Whole as whole
+use Rattle.static_image.proofs.Bounds as bounds
 
 same_words : (n w : ℕ) → w < 4294967296 → AreWords (replicate n w)
 same_words zero w low = tt
@@ -99,27 +99,27 @@ module _ (program : Program) (number : ℕ) (xs : List Placed) (imaged : IsImage
   all_words =
       Each-append (λ w. w < 4294967296) (front main_at (length xs)) behind_front
       (Each-append (λ w. w < 4294967296) (start_block main_at (length xs)) routine_words
-      (filled_words (start_code main_at (length xs)) (whole.fits program number xs imaged choice))
+      (filled_words (start_code main_at (length xs)) (bounds.fits program number xs imaged choice))
       all_routine_words)
       (Each-append (λ w. w < 4294967296) (words_from d FUNCTIONS xs) (generators (function_starts xs) program.ticks)
-      (are_words program.functions imaged.captures d (whole.low program number xs imaged choice) FUNCTIONS xs
-      (whole.static program number xs imaged choice) choice.legal refl
-      (omega (arith, whole.room program number xs imaged choice)))
+      (are_words program.functions imaged.captures d (bounds.low program number xs imaged choice) FUNCTIONS xs
+      (bounds.static program number xs imaged choice) choice.legal refl
+      (omega (arith, bounds.room program number xs imaged choice)))
       (generated.are_words (function_starts xs) program.ticks
-      (imaged.static.written (function_starts xs) (whole.start_low program number xs imaged choice))))
+      (imaged.static.written (function_starts xs) (bounds.start_low program number xs imaged choice))))
 
   long : ends FUNCTIONS xs + 4 * length (generators (function_starts xs) program.ticks) ≡ TEXT + 4 * length text
   long =
       let a = length-append (front main_at (length xs)) behind_front in
       let m = length-append (words_from d FUNCTIONS xs) (generators (function_starts xs) program.ticks) in
       let b = ends_at d FUNCTIONS xs in
-      let f = whole.front_length program number xs imaged choice in
+      let f = bounds.front_length program number xs imaged choice in
       omega (arith, a, b, f, m)
 
   good : has_good_entries (image_of program.image program.ticks number xs) ≡ true
   good =
       let rows = rows_good program.functions imaged.captures FUNCTIONS (length text) xs
-      (whole.static program number xs imaged choice) refl (omega arith) (omega (arith, long)) in
+      (bounds.static program number xs imaged choice) refl (omega arith) (omega (arith, long)) in
       let some : 1 ≤ length text = omega (arith, long, ends_rise FUNCTIONS xs) in
       let t : nat_lt TEXT (TEXT + 4 * length text) ≡ true = grind (arith, nat_tests, some) in
       rw (t, rows) refl
@@ -128,8 +128,8 @@ module _ (program : Program) (number : ℕ) (xs : List Placed) (imaged : IsImage
   rules = record {
     each_word_fits = λ k. word_at text k all_words;
     each_byte_fits = imaged.each_byte_fits;
-    text_is_small = omega (arith, long, whole.room program number xs imaged choice);
+    text_is_small = omega (arith, long, bounds.room program number xs imaged choice);
     bytes_are_few = imaged.bytes_are_few;
-    functions_are_few = omega (arith, length_rows FUNCTIONS xs, whole.few program number xs imaged choice);
+    functions_are_few = omega (arith, length_rows FUNCTIONS xs, bounds.few program number xs imaged choice);
     entries_are_good = good;
   }

@@ -35,6 +35,7 @@ use Rattle.staged_meaning.specs.Ticks.{HaveTicksItems}
 use Rattle.staged_meaning.specs.Program.{tick_size}
 use Rattle.staged_meaning.specs.Specifications.{kinds_of}
 use Rattle.typed_tree.specs.declared.expression.CaptureKind.{CaptureKind}
+use Rattle.typed_tree.specs.declared.expression.CaptureKind.TheVariants as kind
 use Rattle.staged_meaning.specs.Placed.{Allowed, outside, nested, looped, switched, below, AreDeclarations, IsPlaced}
 use Rattle.staged_meaning.specs.Placed.{IsDeclaration, ArePlaced, IsParameter, AreHeaded, IsHeaded}
 use Rattle.staged_meaning.specs.Size.{labels_in, labels, labels_of, temps_in, temps, temps_of, variables_in}
@@ -197,7 +198,7 @@ module _ (fs : List node.Function) (d : Addresses) (kinds : List (List CaptureKi
       )
 
   mutual
-    expr_plain : (e : Expr) → IsBuilt e → HasWords e → HasCalls fs e → HasTicks kinds e → (l t : ℕ) →
+    expr_plain : (e : Expr) → IsBuilt [] e → HasWords e → HasCalls fs e → HasTicks kinds e → (l t : ℕ) →
         ArePlain (expr_ops d e l t)
     expr_plain (node.Const word) built words calls ticks l t = (words, tt)
     expr_plain (node.Var i) built words calls ticks l t = (tt, tt)
@@ -312,9 +313,16 @@ module _ (fs : List node.Function) (d : Addresses) (kinds : List (List CaptureKi
     expr_plain (node.ParamOf a) built words calls ticks l t =
         one (expr_ops d a l t) (build.Run run.Parameter) (expr_plain a built words calls ticks l t) tt
     expr_plain (node.Capture kind a) built words calls ticks l t = absurd ticks
-    expr_plain _ built words calls ticks l t = absurd built
+    expr_plain (node.Compile a) built words calls ticks l t =
+        one (expr_ops d a l t) (build.Run run.Compile) (expr_plain a built words calls ticks l t) tt
+    -- no node of a function names a capture
+    expr_plain (node.Captured w i) built words calls ticks l t = absurd cc
+    expr_plain (node.VGet i) built words calls ticks l t = absurd cc
+    expr_plain (node.VSet i a) built words calls ticks l t = let none : None ≡ Some kind.Variable = built.0 in absurd cc
+    expr_plain (node.VPost i step) built words calls ticks l t = absurd cc
+    expr_plain (node.Splice answer i) built words calls ticks l t = absurd cc
 
-    captures_plain : (args : Args) → AreCaptures args → AreBuilt args → HaveWordsArgs args → HaveCalls fs args →
+    captures_plain : (args : Args) → AreCaptures args → AreBuilt [] args → HaveWordsArgs args → HaveCalls fs args →
         HaveTicksCaptures kinds args → (l t : ℕ) → ArePlain (args_ops d args l t)
     captures_plain node.NoArg are built words calls ticks l t = tt
     captures_plain (node.Arg (node.Capture k x) args) are built words calls ticks l t =
@@ -322,7 +330,7 @@ module _ (fs : List node.Function) (d : Addresses) (kinds : List (List CaptureKi
         (captures_plain args are built.1 words.1 calls.1 ticks.1 (l + labels_in x) (t + temps_in x))
     captures_plain (node.Arg x args) are built words calls ticks l t = absurd are
 
-    args_plain : (args : Args) → AreBuilt args → HaveWordsArgs args → HaveCalls fs args → HaveTicks kinds args →
+    args_plain : (args : Args) → AreBuilt [] args → HaveWordsArgs args → HaveCalls fs args → HaveTicks kinds args →
         (l t : ℕ) →
         ArePlain (args_ops d args l t)
     args_plain node.NoArg built words calls ticks l t = tt
@@ -331,7 +339,7 @@ module _ (fs : List node.Function) (d : Addresses) (kinds : List (List CaptureKi
         (args_plain args built.1 words.1 calls.1 ticks.1 (l + labels_in x) (t + temps_in x))
 
   mutual
-    stmt_plain : (a : Allowed) (s : Stmt) → a.parameters ≡ false → IsPlaced a s → IsBuiltStmt s → HasWordsStmt s →
+    stmt_plain : (a : Allowed) (s : Stmt) → a.parameters ≡ false → IsPlaced a s → IsBuiltStmt [] s → HasWordsStmt s →
         HasCallsStmt fs s → HasTicksStmt kinds s → (to : Targets) (l t : ℕ) → ArePlain (stmt_ops d s to l t)
     stmt_plain a (node.Eval e) bare placed built words calls ticks to l t =
         then_plain (expr_ops d e l t) (dropping (has_value e)) (expr_plain e built words calls ticks l t)
@@ -449,7 +457,7 @@ module _ (fs : List node.Function) (d : Addresses) (kinds : List (List CaptureKi
     stmt_plain a (node.ReturnValue e) bare placed built words calls ticks to l t =
         one (expr_ops d e l t) build.Return (expr_plain e built words calls ticks l t) tt
 
-    items_plain : (a : Allowed) (is : Items) → a.parameters ≡ false → ArePlaced a is → AreBuiltItems is → HaveWords is →
+    items_plain : (a : Allowed) (is : Items) → a.parameters ≡ false → ArePlaced a is → AreBuiltItems [] is → HaveWords is →
         HaveCallsItems fs is → HaveTicksItems kinds is → (to : Targets) (l t : ℕ) → ArePlain (items_ops d is to l t)
     items_plain a node.NoItem bare placed built words calls ticks to l t = tt
     items_plain a (node.Item s is) bare placed built words calls ticks to l t =
@@ -457,7 +465,7 @@ module _ (fs : List node.Function) (d : Addresses) (kinds : List (List CaptureKi
         (items_plain a is bare placed.1 built.1 words.1 calls.1 ticks.1 to (l + labels s) (t + temps s))
 
   -- the parameters at a function's head, the first of which has this number
-  headed_plain : (n k : ℕ) (is : Items) → n + k ≤ MOST_ARGUMENTS → AreHeaded n k is → AreBuiltItems is → HaveWords is →
+  headed_plain : (n k : ℕ) (is : Items) → n + k ≤ MOST_ARGUMENTS → AreHeaded n k is → AreBuiltItems [] is → HaveWords is →
       HaveCallsItems fs is → HaveTicksItems kinds is → (to : Targets) (l t : ℕ) → ArePlain (items_ops d is to l t)
   headed_plain zero k is few headed built words calls ticks to l t =
       items_plain (below outside) is refl headed built words calls ticks to l t
@@ -474,7 +482,7 @@ module _ (fs : List node.Function) (d : Addresses) (kinds : List (List CaptureKi
           (tt, (omega (arith, is, few), then_plain (narrowing w) _ (narrowing_plain w) (tt, (tt, tt))))
       first _ is = absurd is
 
-  body_plain : (n : ℕ) (s : Stmt) → n ≤ MOST_ARGUMENTS → IsHeaded n s → IsBuiltStmt s → HasWordsStmt s →
+  body_plain : (n : ℕ) (s : Stmt) → n ≤ MOST_ARGUMENTS → IsHeaded n s → IsBuiltStmt [] s → HasWordsStmt s →
       HasCallsStmt fs s → HasTicksStmt kinds s → (to : Targets) (l t : ℕ) → ArePlain (stmt_ops d s to l t)
   body_plain n (node.Block vars items) few headed built words calls ticks to l t =
       then_plain (items_ops d vars to l t) _

@@ -1,8 +1,7 @@
 -- The headline: what is promised of the image of a program, for every input, every number of units and of instructions
 -- and every legal choice of register places. What the machine tells follows what is meant and keeps pace with it; the
 -- machine ends in time, and ends only so; it never stops with a fault of the machine; and no word is executed that
--- isn't the image's, or that wasn't flushed after it was written. And each run is defined, as long as nothing is
--- compiled.
+-- isn't the image's, or that wasn't flushed after it was written.
 use Rattle.std.specs.Prelude.{◌≢◌, ℕ, List, Some}
 use Rattle.host_edge.specs.declared.ending.MachineKind.{MachineKind}
 use Rattle.pace.specs.Pace.{Seen, FourParts, instructions_of_a_unit, instructions_besides, retold}
@@ -26,7 +25,5 @@ pub record Headline (program : Program) (image : ImageParts) : Type 0 where
       IsClean image input choices n
   pub faultless : (input : Input) (choices : List Choice) (n : ℕ) → IsDefined image input choices n
       → (kind : MachineKind) (at : ℕ) → (runs image input choices n).ending ≢ Some (Fault kind at)
-  -- As long as nothing is compiled every row of choices has a run that is defined for each number of instructions.
-  pub defined : (input : Input) (choices : List Choice) (n : ℕ) → IsDefined image input choices n
   -- each number of instructions has a row of choices for which the run is defined
   pub some : (input : Input) (n : ℕ) → (choices : List Choice) × IsDefined image input choices n

@@ -1,4 +1,4 @@
--- The functions and the programs of which an image is made so far.
+-- The functions and the programs of which an image is made: those of every accepted text are such.
 use Rattle.std.specs.Prelude.{◌≡◌, ℕ, ◌+◌, ◌*◌, ◌<◌, ◌≤◌, List, [], ◌∷◌, length, slice_get, slice_index, Some}
 use Rattle.icode_ir.specs.Sound.{Each}
 use Rattle.meaning_state.specs.Rows.{numbered}

@@ -5,5 +5,5 @@
 mod laws;
 mod start;
 
-pub use laws::{headline_holds, images_keep_rules};
+pub use laws::images_keep_rules;
 pub use start::write_start;

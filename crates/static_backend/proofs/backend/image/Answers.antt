@@ -2,7 +2,7 @@ use Rattle.std.proofs.Common.{◌≡◌, ◌++◌, length, map, arith, ap, sym, 
 use Rattle.std.proofs.lemmas.List.{length-map}
 use Rattle.typed_tree.specs.View.{function_view}
 use Rattle.static_image.specs.Layout.{front}
-use Rattle.static_image.proofs.Whole.{are_few}
+use Rattle.static_image.proofs.Bounds.{are_few}
 use Rattle.static_backend.specs.Ticks.{ticks_view}
 use Rattle.static_backend.proofs.Images.{HasBytes, in_range, many_rows, address_low, is_image, is_scanned}
 use Rattle.static_backend.proofs.backend.image.Goals as goal

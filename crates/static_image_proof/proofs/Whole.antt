@@ -1,8 +1,8 @@
--- The headline holds for the image of a program, under any legal places of the registers of its functions.
-use Rattle.std.proofs.Common.{◌≡◌, ◌≢◌, ℕ, zero, suc, ◌+◌, ◌-◌, ◌*◌, ◌%◌, ◌<◌, ◌≤◌, ◌⊎◌, inl, inr, Bool, true, false}
+-- The headline holds for the image of an accepted text, under any legal places of the registers of its functions.
+use Rattle.std.proofs.Common.{◌≡◌, ◌≢◌, ℕ, zero, suc, ◌+◌, ◌-◌, ◌*◌, ◌%◌, ◌<◌, ◌≤◌, inl, inr, Bool, true, false}
 use Rattle.std.proofs.Common.{List}
 use Rattle.std.proofs.Common.{[], ◌∷◌, ◌++◌, length, map, Option, None, Some, append_assoc, length-append}
-use Rattle.std.proofs.Common.{refl, sym, ap, ◌∙◌, subst, arith, slice_get, slice_index, replicate, nat_eq}
+use Rattle.std.proofs.Common.{refl, sym, ap, ◌∙◌, subst, arith, slice_get, replicate, nat_eq}
 use Rattle.std.proofs.Common.{if◌then◌else◌}
 use Rattle.std.specs.Fn.{iterate}
 use Rattle.std.specs.List.{flat_map}
@@ -10,9 +10,9 @@ use Rattle.std.specs.Option.{option_map}
 use Rattle.pace.specs.Pace.{Seen, FourParts}
 use Rattle.pace.specs.Claims.{FollowsAtCost, FollowsWithin, PaysWithin, IsCovered}
 use Rattle.pace.proofs.Promises.{four_parts_where_defined}
-use Rattle.word32.specs.declared.map.TheConstants.{ARENA, FUNCTIONS, SEGMENT_BYTES, TEXT}
+use Rattle.word32.specs.declared.map.TheConstants.{ARENA, FUNCTIONS, TEXT}
 use Rattle.host_edge.specs.declared.ending.MachineKind.{MachineKind}
-use Rattle.history.specs.Events.{Item, End, Fault, Input}
+use Rattle.history.specs.Events.{End, Fault, Input}
 use Rattle.mips_encoder.specs.Table.{word_of}
 use Rattle.mips_encoder.specs.declared.instruction.Instr.{Instr}
 use Rattle.mips_model.specs.State.{Code, Data, World}
@@ -21,12 +21,10 @@ use Rattle.mips_model.specs.Laws.{HasAt, at}
 use Rattle.mips_model.specs.Told.{Told, told, tells}
 use Rattle.mips_model.specs.Run as machine
 use Rattle.mips_model.specs.Run.{row_of, runs, IsDefined, IsWellChosen, IsFine, IsClean}
-use Rattle.mips_model.proofs.Loaded.{AllFit, loaded}
-use Rattle.mips_model_laws.specs.Laws.{IsOf}
+use Rattle.mips_model.proofs.Loaded.{loaded}
 use Rattle.mips_model_laws.specs.Tales.{Tale, tell, see_tale}
 use Rattle.mips_model_laws.specs.Clean.{IsUnspoiled}
 use Rattle.mips_model_laws.proofs.Below.{runs_in}
-use Rattle.mips_model_laws.proofs.Entrances.{AreNoEntries, stays_silent}
 use Rattle.mips_model_laws.proofs.Unspoiled.{code_unspoiled}
 use Rattle.mips_model_laws.proofs.Seam.{world_of_tale}
 use Rattle.mips_model_laws.proofs.Completing.{complete}
@@ -40,120 +38,73 @@ use Rattle.icode_ops.specs.Kinds.{run_number}
 use Rattle.mips_assembly.specs.Assembly.{nop}
 use Rattle.image_file.specs.Image.{ImageParts}
 use Rattle.mips_model.specs.Choices.{Choice}
-use Rattle.icode_ir.specs.Sound.{Each}
 use Rattle.icode_meaning.specs.State.{Function, Program, State, see, least_at, most_at}
 use Rattle.icode_meaning.specs.Steps.{first}
 use Rattle.meaning_state.specs.Shared.{Shared}
 use Rattle.typed_tree.specs.declared.expression.CaptureKind.{CaptureKind}
 use Rattle.typed_tree.specs.Nodes as node
 use Rattle.meaning_state.specs.Rows.{numbered}
-use Rattle.staged_meaning.specs.Size.{size_of_stmt}
-use Rattle.staged_meaning.specs.Frames.{HasFramesStmt}
-use Rattle.staged_meaning.specs.Scope.{IsReadyIn}
 use Rattle.staged_meaning.specs.Program as meaning
 use Rattle.staged_meaning.specs.Program.{Tick}
 use Rattle.staged_meaning.specs.Meaning.{at_start, meant}
 use Rattle.tick_lower_spec.specs.Lower.{Addresses}
-use Rattle.tick_lower_proof.specs.Laws.{Stands, row_for, HasFunctions, HasProgram, AreReady}
-use Rattle.tick_lower_proof.proofs.Following.{lowering}
 use Rattle.icode_expand_proof.specs.Standing as standing
 use Rattle.icode_expand_proof.specs.Standing.{WordsAt}
 use Rattle.icode_expand_proof.specs.Settings.{Setting, Standing, Published, Extends}
-use Rattle.icode_expand_proof.specs.Served.{Serving}
-use Rattle.icode_expand_proof.specs.Laws.{Arrives}
 use Rattle.icode_expand_proof.proofs.Codes.{ops_of, front_stands}
 use Rattle.icode_expand_proof.proofs.Fitting.{words_stand}
 use Rattle.closures_proof.specs.Relation.{HasSpecifications}
-use Rattle.closures_proof.specs.Ticks.{HasRoutines}
 use Rattle.closures_proof.specs.Ops.{check_of}
-use Rattle.icode_run_proof.specs.Ticking.{AreTicks}
-use Rattle.icode_run_proof.specs.Relation.{Base, HasVariableRoutines, Stood, see_told, text_of, ticks_of}
-use Rattle.icode_run_proof.specs.Laws.{Arrived, upper}
 use Rattle.icode_run_proof.proofs.Tales.{tale_told}
-use Rattle.icode_run_proof.proofs.Whole.{simulated, unspoiled}
-use Rattle.icode_run_proof.proofs.Whole.{unfinished as finishes_none}
-use Rattle.icode_run_proof.proofs.Unfinished.{IsUnfinished, unfinished}
-use Rattle.icode_expand_proof.specs.Relation.{IsFair}
 use Rattle.limits.specs.declared.cost.TheConstants.{START_INSTRUCTIONS, START_OPS_INSTRUCTIONS, UNIT_INSTRUCTIONS}
-use Rattle.limits.specs.declared.program.TheConstants.{FRONT_WORDS, MOST_FUNCTIONS}
-use Rattle.routine_spec.specs.Blocks.{filled, routine_words}
-use Rattle.routine_spec.proofs.Short.{routines_fill}
-use Rattle.static_image.specs.Layout.{Placed, start_code, start_block, front, behind, rows_of, starts, ends}
-use Rattle.static_image.specs.Layout.{words_from, generator_starts, generators, function_starts, addresses_of}
-use Rattle.static_image.specs.Layout.{functions_of, IsChoice, image_of}
-use Rattle.static_image.specs.Served.{IsStatic, most_words, AreStatic, IsImaged}
-use Rattle.static_image.specs.Told.{told_of, built_for}
-use Rattle.static_image.specs.Headline.{Headline, told_meaning}
-use Rattle.static_image.proofs.Faultless.{stays_faultless, no_fault}
+use Rattle.limits.specs.declared.program.TheConstants.{MOST_FUNCTIONS}
+use Rattle.routine_spec.specs.Blocks.{routine_words}
+use Rattle.static_image.specs.Layout.{Placed, start_code, start_block, front, behind, rows_of, ends}
+use Rattle.static_image.specs.Layout.{words_from, generators}
+use Rattle.static_image.specs.Layout.{IsChoice}
 use Rattle.static_image.proofs.Arriving as start
 use Rattle.static_image.proofs.Blocks.{routines, routine_stands}
-use Rattle.static_image.proofs.Generated as generated
-use Rattle.static_image.proofs.Generated.{tick_in, tick_found, tick_there}
-use Rattle.static_image.proofs.Placing.{Static, each_static, ends_most, starts_low, some_words, staged}
-use Rattle.static_image.proofs.Placing.{function_in}
-use Rattle.static_image.proofs.Placing.{places_in, IsThere, all_stand, IsFound, find}
-use Rattle.static_image.proofs.Serving.{AreLow}
-use Rattle.static_image.proofs.Tables.{row_is, published}
-
--- a statement has a node
-some_node : (object : ℕ) (s : node.Stmt) → HasFramesStmt object s → 1 ≤ size_of_stmt s
-some_node object (node.Eval e) h = omega arith
-some_node object (node.Block vars items) h = omega arith
-some_node object (node.Variable i) h = omega arith
-some_node object (node.Object offset n) h = omega (arith, h.1)
-some_node object (node.Parameter k w) h = omega arith
-some_node object (node.ParameterObject k w offset) h = omega arith
-some_node object (node.If e s) h = omega arith
-some_node object (node.IfElse e s r) h = omega arith
-some_node object (node.While e s) h = omega arith
-some_node object (node.Do s e) h = omega arith
-some_node object (node.For e s) h = omega arith
-some_node object (node.ForStep e step s) h = omega arith
-some_node object (node.Switch e vars items) h = omega arith
-some_node object (node.Case value) h = omega arith
-some_node object node.Default h = omega arith
-some_node object node.Break h = omega arith
-some_node object node.Continue h = omega arith
-some_node object node.Return h = omega arith
-some_node object (node.ReturnValue e) h = omega arith
-
--- so there are not many functions
-few_functions : (gs : List node.Function) (kinds : List (List CaptureKind)) (fs : List node.Function) →
-    Each (IsStatic gs kinds) fs → 256 * length fs ≤ most_words fs
-few_functions gs kinds [] h = omega arith
-few_functions gs kinds (f ∷ fs) h =
-    omega (arith, few_functions gs kinds fs h.1, some_node f.object f.body h.0.ready.frames)
-
-pub are_few : (fs : List node.Function) (kinds : List (List CaptureKind)) (ts : List Tick) → AreStatic fs kinds ts →
-    length fs ≤ MOST_FUNCTIONS
-are_few fs kinds ts h = omega (arith, few_functions fs kinds fs h.each, h.room)
-
-length_functions : (xs : List Placed) → length (functions_of xs) ≡ length xs
-length_functions [] = refl
-length_functions (x ∷ xs) = ap suc (length_functions xs)
+use Rattle.std.proofs.lemmas.Bool.{false≢true}
+use Rattle.word32.specs.declared.map.TheConstants.{NEXT_FUNCTION_CELL}
+use Rattle.meaning_state.specs.Rows.{next_function}
+use Rattle.staged_meaning.specs.Scope.{IsReadyIn}
+use Rattle.icode_templates_proof.specs.Closures.{word_at}
+use Rattle.icode_templates_proof.proofs.Templates.{constant_parts}
+use Rattle.tick_lower_proof.specs.Laws.{Stands}
+use Rattle.tick_lower_spec.specs.TickPieces.{tick_pieces}
+use Rattle.tick_lower_spec.specs.declared.piece.Piece.{Piece}
+use Rattle.generator_spec.specs.Laws.{pieces_at}
+use Rattle.static_image.specs.Layout.{functions_at}
+use Rattle.static_image.proofs.Placing.{some_words}
+use Rattle.mips_encoder.specs.Addresses.{past}
+use Rattle.mips_model_laws.specs.Laws.{IsOf}
+use Rattle.mips_model_laws.proofs.Entrances.{stays_silent}
+use Rattle.wellformed.specs.Program.{IsProgram}
+use Rattle.generator_laws.specs.Laws.{HasGenerators}
+use Rattle.routine_spec.specs.Compile.{compile_code}
+use Rattle.routine_spec.specs.Generator.{generator_code}
+use Rattle.compile_routine.specs.Laws.{HasArena}
+use Rattle.generator_spec.specs.FittingLaws.{program_pieces}
+use Rattle.tick_lower_proof.specs.Laws.{row_for, HasFunctions, LoweringFollows}
+use Rattle.known_closures_proof.specs.Known.{IsMeaning}
+use Rattle.icode_run_proof.specs.Relation.{Base, HasCompiler, IsPresent, Stood, see_told, text_of}
+use Rattle.icode_run_proof.specs.Relation.{tick_count, functions_of as count_of}
+use Rattle.icode_run_proof.specs.Laws.{Arrived, upper, ProgramIsSimulated, ProgramIsUnspoiled}
+use Rattle.static_image.specs.Served.{IsImaged}
+use Rattle.static_image.specs.Told.{told_of}
+use Rattle.static_image.specs.Headline.{Headline, told_meaning}
+use Rattle.static_image.proofs.Bounds as bounds
+use Rattle.static_image.proofs.Bounds.{length_functions}
+use Rattle.static_image.proofs.Placing.{staged, function_in, places_in, IsThere, all_stand, IsFound, ends_at}
+use Rattle.static_image_proof.proofs.Faultless.{stays_faultless, no_fault}
+use Rattle.static_image_proof.proofs.Generators as generators_stand
+use Rattle.static_image_proof.proofs.Generators.{Generates}
+use Rattle.static_image_proof.proofs.Machine as machine_is
+use Rattle.static_image_proof.proofs.Tables.{row_is, published}
 
 length_rows : (at : ℕ) (xs : List Placed) → length (map row_of (rows_of at xs)) ≡ length xs
 length_rows at [] = refl
 length_rows at (x ∷ xs) = ap suc (length_rows (behind at x) xs)
-
--- what holds of all members holds of the one of a number
-numbered_each : (n : ℕ) (gs : List node.Function) (kinds : List (List CaptureKind)) (fs : List node.Function)
-    {f : node.Function} → Each (IsStatic gs kinds) fs → numbered n fs ≡ Some f → IsStatic gs kinds f
-numbered_each zero gs kinds fs h e = absurd cc
-numbered_each (suc k) gs kinds [] h e = absurd cc
-numbered_each (suc zero) gs kinds (g ∷ fs) {f} h e = let is : g ≡ f = cc in subst (IsStatic gs kinds) is h.0
-numbered_each (suc (suc k)) gs kinds (g ∷ fs) h e = numbered_each (suc k) gs kinds fs h.1 e
-
--- a number that is there is below the length
-there_below : {A : Type 0} (xs : List A) (k : ℕ) (x : A) → slice_get xs k ≡ Some x → k < length xs
-there_below [] k x e = absurd cc
-there_below (y ∷ ys) zero x e = omega arith
-there_below (y ∷ ys) (suc k) x e = omega (arith, there_below ys k x e)
-
--- the kinds of a tick's captures
-abbrev kinds_at : Option (List CaptureKind) → List CaptureKind
-kinds_at None = []
-kinds_at (Some ks) = ks
 
 -- an ending is told as it is
 same_ending : (o e : Option End) → option_map (λ (e : End). e) o ≡ e → o ≡ e
@@ -196,150 +147,81 @@ pays_alike bound start upper least most this that same p = record {
 told_by : (n : ℕ) (t : Tale) → t.told ≡ [] → told n t.world ≡ [] → (iterate tell n t).told ≡ []
 told_by n t none silent = tale_told n t ∙ ap (λ (xs : List Told). xs ++ told n t.world) none ∙ silent
 
+-- the address that a row has
+row_address : (address : ℕ) (f : node.Function) (a k : ℕ) → row_for address (Some f) ≡ Some (a, k) → address ≡ a
+row_address address f a k e = ap first_of e
+  where
+    first_of : Option (ℕ × ℕ) → ℕ
+    first_of None = 0
+    first_of (Some row) = row.0
+
 -- no word of the arena
-abbrev none : ℕ → Bool
-none k = false
+abbrev no_words : ℕ → Bool
+no_words k = false
 
-none_of : (a : ℕ) → ARENA ≤ a → IsOf none a → ⊥
-none_of a high (inl low) = omega (arith, high, low)
-none_of a high (inr is) = cc
+no_word : (a : ℕ) → ARENA ≤ a → IsOf no_words a → ⊥
+no_word a high (inl low) = omega (arith, high, low)
+no_word a high (inr is) = cc
 
-module _ (program : meaning.Program) (number : ℕ) (xs : List Placed) (imaged : IsImaged program number)
-    (choice : IsChoice program.functions program.ticks xs) where
+-- the claims of both seams
+pub record Seams : Type 0 where
+  pub lowering : LoweringFollows
+  pub simulated : ProgramIsSimulated
+  pub unspoiled : ProgramIsUnspoiled
+
+module _ (seams : Seams) (tree : node.Program) (accepted : IsProgram tree) (program : meaning.Program)
+    (meant_is : IsMeaning tree program) (number : ℕ) (xs : List Placed) (imaged : IsImaged program number)
+    (own : imaged.captures ≡ accepted.captures) (choice : IsChoice program.functions program.ticks xs) where
   abbrev ts : List Tick
-  ts = program.ticks
+  ts = machine_is.ts tree accepted program meant_is number xs imaged own choice
 
   abbrev kinds : List (List CaptureKind)
-  kinds = imaged.captures
+  kinds = machine_is.kinds tree accepted program meant_is number xs imaged own choice
 
   abbrev d : Addresses
-  d = addresses_of ts xs
+  d = machine_is.d tree accepted program meant_is number xs imaged own choice
 
   abbrev fs : List node.Function
-  fs = program.functions
+  fs = machine_is.fs tree accepted program meant_is number xs imaged own choice
 
   abbrev image : ImageParts
-  image = image_of program.image ts number xs
+  image = machine_is.image tree accepted program meant_is number xs imaged own choice
 
-  -- the addresses of functions
-  abbrev pub all_starts : List ℕ
-  all_starts = function_starts xs
+  abbrev all_starts : List ℕ
+  all_starts = machine_is.all_starts tree accepted program meant_is number xs imaged own choice
 
-  pub static : Each (Static fs kinds) xs
-  static = each_static fs kinds xs (subst (Each (IsStatic fs kinds)) (sym choice.same) imaged.static.each)
+  abbrev main_at : ℕ
+  main_at = machine_is.main_at tree accepted program meant_is number xs imaged own choice
 
-  most : most_words (functions_of xs) ≡ most_words fs
-  most = ap most_words choice.same
-
-  -- functions and those of ticks stand below the arena
-  pub room : ends FUNCTIONS xs + 4 * length (generators all_starts ts) ≤ ARENA
-  room = omega (arith, ends_most fs kinds FUNCTIONS xs static, most, generated.most all_starts ts, imaged.static.room)
-
-  pub start_low : (k : ℕ) → slice_index all_starts k < SEGMENT_BYTES
-  start_low k = omega (arith, starts_low FUNCTIONS xs k, room)
-
-  pub low : AreLow d kinds
-  low = record {
-    functions = λ n. start_low (n - 1);
-    generators = λ t. omega (arith, generated.starts_low all_starts (ends FUNCTIONS xs) ts t, room);
-    sizes = imaged.static.sizes;
-    captures = λ t ks is. omega (arith, imaged.static.few t ks is);
-  }
-
-  pub few : length xs ≤ MOST_FUNCTIONS
-  few =
-      let n = length_functions xs in
-      let same = ap length choice.same in
-      omega (arith, n, same, are_few fs kinds ts imaged.static)
-
-  -- each function is found at its address
-  found_at : (n : ℕ) (f : node.Function) → numbered n fs ≡ Some f → IsFound d FUNCTIONS xs (n - 1) f
-  found_at zero f e = absurd cc
-  found_at (suc k) f e =
-      let at : k ≡ suc k - 1 = omega arith in
-      subst (λ (n : ℕ). IsFound d FUNCTIONS xs n f) at
-      (find d FUNCTIONS xs k f (ap (λ (gs : List node.Function). slice_get gs k) choice.same ∙ e))
-
-  pub found : IsFound d FUNCTIONS xs (number - 1) program.main
-  found = found_at number program.main imaged.main_is
-
-  abbrev pub main_at : ℕ
-  main_at = d.function_at number
+  found : IsFound d FUNCTIONS xs (number - 1) program.main
+  found = machine_is.found tree accepted program meant_is number xs imaged own choice
 
   abbrev main : Function
-  main = staged d main_at found.placed
-
-  pub main_even : main_at % 4 ≡ 0
-  main_even = omega (arith, found.even)
-
-  pub main_low : main_at < ARENA
-  main_low = omega (arith, found.to, room, some_words found.placed)
-
-  all_ready : (n : ℕ) (f : node.Function) → numbered n fs ≡ Some f → IsReadyIn fs kinds f
-  all_ready n f e = (numbered_each n fs kinds fs imaged.static.each e).ready
-
-  main_ready : IsReadyIn fs kinds program.main
-  main_ready = all_ready number program.main imaged.main_is
-
-  ready : AreReady kinds program
-  ready = record {
-    main = main_ready;
-    no_parameters = imaged.no_parameters;
-    functions = all_ready;
-    sizes = imaged.static.sizes;
-    captures = imaged.static.few;
-  }
-
-  -- a function that is found is the program's
-  stands_for : (at : ℕ) (x : Placed) (f : node.Function) → x.function ≡ f → Stands d f (staged d at x)
-  stands_for at x f is =
-      subst (λ (g : node.Function). Stands d g (staged d at x)) is (record { ops = refl; charge = refl; object = refl })
-
-  main_stands : Stands d program.main main
-  main_stands = stands_for main_at found.placed program.main found.function
-
-  -- ---- the staged machine: functions, rows and ticks; none is compiled yet
+  main = machine_is.main tree accepted program meant_is number xs imaged own choice
 
   abbrev machine_rows : List (ℕ × ℕ)
-  machine_rows = map row_of (rows_of FUNCTIONS xs)
-
-  abbrev tick_starts : List ℕ
-  tick_starts = generator_starts all_starts (ends FUNCTIONS xs) ts
+  machine_rows = machine_is.machine_rows tree accepted program meant_is number xs imaged own choice
 
   abbrev machine_of : Program
-  machine_of = record {
-    function_at = function_in d FUNCTIONS xs;
-    row = λ n. numbered n machine_rows;
-    source = program;
-    tick_at = tick_in tick_starts 0;
-    kinds = λ t. kinds_at (slice_get kinds t);
-    ops_of = λ syntax. [];
-  }
+  machine_of = machine_is.machine_of tree accepted program meant_is number xs imaged own choice
 
   abbrev base : Base
-  base = record { program = machine_of; generator_at = d.generator_at; built = built_for program image }
+  base = machine_is.base tree accepted program meant_is number xs imaged own choice
 
-  few_kinds : (t : ℕ) (o : Option (List CaptureKind)) → slice_get kinds t ≡ o → length (kinds_at o) ≤ 32768
-  few_kinds t None is = omega arith
-  few_kinds t (Some ks) is = omega (arith, imaged.static.few t ks is)
+  main_stands : Stands d program.main main
+  main_stands = machine_is.main_stands tree accepted program meant_is number xs imaged own choice
 
-  ticks : AreTicks (ticks_of base)
-  ticks = record {
-    at = λ a t e. tick_found tick_starts a t e;
-    low = λ t. omega (arith, low.generators t);
-    few = λ t. few_kinds t (slice_get kinds t) refl;
-  }
+  main_ready : IsReadyIn fs kinds program.main
+  main_ready = (machine_is.ready tree accepted program meant_is number xs imaged own choice).main
 
-  has_program : HasProgram machine_of d program kinds
-  has_program = record {
-    source = refl;
-    ticks_are = refl;
-    kinds = λ t ks is. ap kinds_at is;
-    generators = λ t ks is.
-        let same : 0 + t ≡ t = omega arith in
-        tick_there all_starts (ends FUNCTIONS xs) ts 0 t
-        (omega (arith, there_below kinds t ks is, imaged.static.as_many)) ∙ ap Some same;
-  }
+  main_even : main_at % 4 ≡ 0
+  main_even = bounds.main_even program number xs imaged choice
+
+  main_low : main_at < ARENA
+  main_low = bounds.main_low program number xs imaged choice
+
+  few : length xs ≤ MOST_FUNCTIONS
+  few = bounds.few program number xs imaged choice
 
   -- ---- what stands in the text
 
@@ -352,21 +234,9 @@ module _ (program : meaning.Program) (number : ℕ) (xs : List Placed) (imaged :
   abbrev c : Code
   c = loaded text
 
-  block_long : length (start_block main_at (length xs)) ≡ 64
-  block_long = start.filled_length (words (start_code main_at (length xs))) (omega arith)
-
-  pub front_length : length (front main_at (length xs)) ≡ FRONT_WORDS
-  front_length =
-      let a = block_long in
-      let b : length routine_words ≡ 960 = routines_fill in
-      omega (arith, a, b, length-append (start_block main_at (length xs)) routine_words)
-
-  pub fits : AllFit (start_code main_at (length xs))
-  fits = start.start_fits main_at (length xs) (omega (arith, main_low)) few
-
   start_stands : HasAt c TEXT (start_code main_at (length xs))
   start_stands =
-      words_stand c TEXT (start_code main_at (length xs)) fits refl (omega arith)
+      words_stand c TEXT (start_code main_at (length xs)) (bounds.fits program number xs imaged choice) refl (omega arith)
       (subst (λ (ws : List ℕ). WordsAt (loaded ws) TEXT (words (start_code main_at (length xs))))
       (sym (append_assoc (start_block main_at (length xs)) routine_words behind_front))
       (start.first_words (words (start_code main_at (length xs)))
@@ -379,7 +249,8 @@ module _ (program : meaning.Program) (number : ℕ) (xs : List Placed) (imaged :
   routine_there k is a low found at =
       subst (λ (ws : List ℕ). HasAt (loaded ws) a is)
       (sym (append_assoc (start_block main_at (length xs)) routine_words behind_front))
-      (routine_stands (start_block main_at (length xs)) behind_front k is a block_long low found at)
+      (routine_stands (start_block main_at (length xs)) behind_front k is a
+      (bounds.block_long program number xs imaged choice) low found at)
 
   check_there : (named : Named) → HasAt c (routine_address (run_number (check_of named))) (check_code named)
   check_there AnExpression = routine_there 5 (check_code AnExpression) _ (omega arith) refl refl
@@ -388,8 +259,10 @@ module _ (program : meaning.Program) (number : ℕ) (xs : List Placed) (imaged :
 
   pub there : (a : ℕ) (f : Function) → machine_of.function_at a ≡ Some f → IsThere c a f (places_in FUNCTIONS xs a)
   there =
-      all_stand fs kinds d low (generators all_starts ts) (front main_at (length xs)) FUNCTIONS xs
-      (omega (arith, front_length)) static choice.legal (omega (arith, room))
+      all_stand fs kinds d (bounds.low program number xs imaged choice) (generators all_starts ts)
+      (front main_at (length xs)) FUNCTIONS xs (omega (arith, bounds.front_length program number xs imaged choice))
+      (bounds.static program number xs imaged choice) choice.legal
+      (omega (arith, bounds.room program number xs imaged choice))
 
   static_function : (at : ℕ) (ys : List Placed) (a : ℕ) (f : Function) → function_in d at ys a ≡ Some f →
       f.compiled ≡ false
@@ -405,16 +278,75 @@ module _ (program : meaning.Program) (number : ℕ) (xs : List Placed) (imaged :
   have_functions : HasFunctions machine_of d fs
   have_functions = record {
     at = λ n f e. (
-        let x = found_at n f e in
+        let x = bounds.found_at program number xs imaged choice n f e in
         record {
           has = staged d (d.function_at n) x.placed;
           is = x.found;
-          stands = stands_for (d.function_at n) x.placed f x.function;
+          stands = machine_is.stands_for tree accepted program meant_is number xs imaged own choice (d.function_at n) x.placed f x.function;
         });
     rows = λ n. row_is FUNCTIONS xs n ∙
         ap (λ (gs : List node.Function). row_for (d.function_at n) (numbered n gs)) choice.same;
     source = refl;
     whole = λ a f known. (there a f known).whole;
+  }
+
+  -- each row has the address of a function below the arena
+  row_low : (n a k : ℕ) → machine_of.row n ≡ Some (a, k) → a < ARENA
+  row_low n a k e = by (numbered n fs) refl (sym (have_functions.rows n) ∙ e)
+    where
+      by : (o : Option node.Function) → numbered n fs ≡ o → row_for (d.function_at n) o ≡ Some (a, k) → a < ARENA
+      by None at e = absurd cc
+      by (Some f) is e =
+          let x = bounds.found_at program number xs imaged choice n f is in
+          omega (
+            arith,
+            row_address (d.function_at n) f a k e,
+            x.to,
+            bounds.room program number xs imaged choice,
+            some_words x.placed,
+          )
+
+  -- the functions that generate the code of ticks stand behind all functions
+  abbrev before : List ℕ
+  before = front main_at (length xs) ++ words_from d FUNCTIONS xs
+
+  pub record IsGenerator (tick : ℕ) : Type 0 where
+    pub stands : HasAt c (d.generator_at tick) (generator_code (program_pieces d tree tick))
+    pub low : past (d.generator_at tick) (generator_code (program_pieces d tree tick)) ≤ ARENA
+
+  generates : (tick : ℕ) → tick < length ts → IsGenerator tick
+  generates tick low = by (slice_get ts tick) refl
+    where
+      behind_all : ends FUNCTIONS xs ≡ TEXT + 4 * length before
+      behind_all =
+          omega (
+            arith,
+            length-append (front main_at (length xs)) (words_from d FUNCTIONS xs),
+            ends_at d FUNCTIONS xs,
+            bounds.front_length program number xs imaged choice,
+          )
+
+      by : (o : Option Tick) → slice_get ts tick ≡ o → IsGenerator tick
+      by None none = absurd (machine_is.none_below ts tick low none)
+      by (Some t) at =
+          let g : Generates all_starts (loaded (before ++ generators all_starts ts)) (d.generator_at tick) t =
+          generators_stand.generate all_starts before (ends FUNCTIONS xs) ts behind_all
+          (imaged.static.written all_starts (bounds.start_low program number xs imaged choice)) (bounds.room program number xs imaged choice) tick t at in
+          let whole : Generates all_starts c (d.generator_at tick) t =
+          subst (λ (words : List ℕ). Generates all_starts (loaded words) (d.generator_at tick) t)
+          (append_assoc (front main_at (length xs)) (words_from d FUNCTIONS xs) (generators all_starts ts)) g in
+          let same : tick_pieces (functions_at all_starts) t ≡ program_pieces d tree tick =
+          sym (machine_is.pieces_are tree accepted program meant_is number xs imaged own choice tick
+          ∙ ap (pieces_at (functions_at all_starts)) at) in
+          record {
+            stands = subst (λ (ps : List Piece). HasAt c (d.generator_at tick) (generator_code ps)) same whole.stands;
+            low = subst (λ (ps : List Piece). past (d.generator_at tick) (generator_code ps) ≤ ARENA) same whole.low;
+          }
+
+  have_generators : HasGenerators (text_of base) (program_pieces d tree) (tick_count base) c
+  have_generators = record {
+    stands = λ tick low. (generates tick low).stands;
+    low = λ tick low. omega (arith, (generates tick low).low);
   }
 
   module _ (input : Input) (row : List Choice) where
@@ -468,11 +400,39 @@ module _ (program : meaning.Program) (number : ℕ) (xs : List Placed) (imaged :
         beyond (r ∷ rs) (suc zero) lt = absurd (omega (arith, lt))
         beyond (r ∷ rs) (suc (suc k)) lt = beyond rs (suc k) (omega (arith, lt))
 
+    compiler : HasCompiler base setting
+    compiler = record { routine = routine_there 1 compile_code _ (omega arith) refl refl; generators = have_generators }
+
+    -- nothing is compiled yet
+    present : IsPresent base c setting
+    present = record {
+      each = λ k x at live. absurd cc;
+      gone = λ k x at dead. absurd cc;
+      known = λ a f known compiled. absurd (false≢true (sym (static_function FUNCTIONS xs a f known) ∙ compiled));
+      low = λ a f known static. (there a f known).below;
+      rows = λ n a k le e. row_low n a k e;
+    }
+
+    arena : HasArena (count_of base) shared set
+    arena = record {
+      function = next_number;
+      next = refl;
+      within = omega arith;
+      summed = record {
+        held = record { ranges = omega arith; apart = tt };
+        sum = record { packed = tt; words = refl };
+      };
+    }
+      where
+        here : word_at set.cells NEXT_FUNCTION_CELL ≡ length xs + 1
+        here = constant_parts (length xs + 1)
+
+        next_number : word_at set.cells NEXT_FUNCTION_CELL ≡ next_function (length fs) shared
+        next_number = omega (arith, here, length_functions xs, ap length choice.same)
+
     stood : Stood base c setting
     stood = record {
-      can = none;
       code_is = refl;
-      entries = λ table p a high is. absurd (none_of a high is);
       standing = stands_there;
       extends = extends;
       serving = record { ops = λ a f known. (there a f known).served };
@@ -485,7 +445,9 @@ module _ (program : meaning.Program) (number : ℕ) (xs : List Placed) (imaged :
         local = routine_there 2 _ _ (omega arith) refl refl;
         parameter = routine_there 3 _ _ (omega arith) refl refl;
       };
-      none_compiled = refl;
+      compiler = compiler;
+      present = present;
+      arena = arena;
       idle = refl;
     }
 
@@ -514,15 +476,18 @@ module _ (program : meaning.Program) (number : ℕ) (xs : List Placed) (imaged :
     -- the start tells nothing
     silent : told 17 begins ≡ []
     silent =
-        stays_silent none 17 (machine.first_state image input row)
-        (runs_in none 17 (machine.first_state image input row) (at c main_at 0 set)
+        stays_silent no_words 17 (machine.first_state image input row)
+        (runs_in no_words 17 (machine.first_state image input row) (at c main_at 0 set)
         (start.reaches main_at (length xs) main_even (omega (arith, main_low)) program.image (rows_of FUNCTIONS xs)
         c input row start_stands) refl)
-        (λ a high is. absurd (none_of a high is)) (ap (λ (w : World). w.state.d.outside) comes)
+        (λ a high is. absurd (no_word a high is)) (ap (λ (w : World). w.state.d.outside) comes)
 
     arrived : Arrived base c setting main shared (iterate tell 17 tale)
+    unfolding found
     arrived = record {
-      ticks = ticks;
+      ticks = machine_is.ticks tree accepted program meant_is number xs imaged own choice;
+      generators = λ tick low. (generates tick low).low;
+      compilable = machine_is.compilable tree accepted program meant_is number xs imaged own choice input;
       stood = stood;
       specifications = specifications;
       world = there_now;
@@ -556,7 +521,10 @@ module _ (program : meaning.Program) (number : ℕ) (xs : List Placed) (imaged :
 
     follows : FollowsAtCost UNIT_INSTRUCTIONS START_OPS_INSTRUCTIONS (meant program input) (λ i. see (above i))
         (λ i. least_at (above i)) (λ i. most_at (above i))
-    follows = lowering machine_of d program kinds input main ready main_stands have_functions has_program
+    follows =
+        seams.lowering machine_of d program kinds input main (machine_is.ready tree accepted program meant_is number xs imaged own choice) main_stands have_functions
+        (machine_is.has_program tree accepted program meant_is number xs imaged own choice)
+        (machine_is.compiles_generated tree accepted program meant_is number xs imaged own choice input)
 
     -- the same of what is told
     told_follows : FollowsAtCost UNIT_INSTRUCTIONS START_OPS_INSTRUCTIONS (told_meaning program image input)
@@ -590,27 +558,15 @@ module _ (program : meaning.Program) (number : ℕ) (xs : List Placed) (imaged :
     pays bound defined =
         pays_alike bound 49 (λ i. see_told base (above i)) (λ i. least_at (above i)) (λ i. most_at (above i))
         (λ n. see_tale (iterate tell n tale)) (tells image input row) seen_alike
-        (simulated base c setting main shared 17 tale arrived bound (fine_for bound defined))
+        (seams.simulated base c setting main shared 17 tale arrived bound (fine_for bound defined))
 
     pub unspoiled_run : (n : ℕ) → IsDefined image input row (UNIT_INSTRUCTIONS * n + (START_OPS_INSTRUCTIONS + 49))
         → IsUnspoiled n begins
     unspoiled_run n defined =
-        unspoiled base c setting main shared 17 tale arrived (code_unspoiled 17 begins
+        seams.unspoiled base c setting main shared 17 tale arrived (code_unspoiled 17 begins
         (ap (λ (w : World). w.state.code) comes)) n UNIT_INSTRUCTIONS START_OPS_INSTRUCTIONS
         (told_meaning program image input) told_follows
         (fine_for (UNIT_INSTRUCTIONS * n + (START_OPS_INSTRUCTIONS + 49)) defined)
-
-    -- nor is a function finished, so no choice is met
-    none_finished : (n : ℕ) → IsUnfinished n begins
-    none_finished n =
-        finishes_none base c setting main shared 17 tale arrived
-        (unfinished 17 begins (ap (λ (w : World). w.state.d.outside.making) comes)
-        (subst IsFair (sym (ap (λ (w : World). w.ending) comes)) tt)) n UNIT_INSTRUCTIONS START_OPS_INSTRUCTIONS
-        (told_meaning program image input) told_follows
-
-    pub defined_run : (n : ℕ) → IsDefined image input row n
-    unfolding run
-    defined_run n i l serving = let none : true ≡ false = sym serving ∙ none_finished n i l in absurd cc
 
     -- the meaning doesn't end with a fault of the machine
     pub no_end : (m : ℕ) (k : MachineKind) (a : ℕ) → (told_meaning program image input m).ending ≡ Some (Fault k a) → ⊥
@@ -655,6 +611,5 @@ module _ (program : meaning.Program) (number : ℕ) (xs : List Placed) (imaged :
     faithful = faithful;
     clean = is_clean;
     faultless = faultless;
-    defined = λ input row n. defined_run input row n;
     some = some;
   }

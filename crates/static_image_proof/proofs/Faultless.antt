@@ -17,11 +17,12 @@ use Rattle.icode_ops.specs.declared.kind.RunKind.TheVariants as run
 use Rattle.meaning_state.specs.Bodies.{Body}
 use Rattle.word32.specs.declared.map.TheConstants.{ARENA}
 use Rattle.meaning_state.specs.Operators.{bin_value, bin_trap, signed_trap, zero_trap}
+use Rattle.meaning_state.specs.Shared.{Expression, Statement}
 use Rattle.meaning_state.specs.Shared.{Specification, Local, Param, Read, Got, Failed, get_byte, access_trap, loaded}
 use Rattle.meaning_state.specs.Shared.{stored, are_objects, limit_trap}
 use Rattle.meaning_state.specs.Rows.{closure_trap, index_trap, size_trap, next_number, specified, numbered}
-use Rattle.meaning_state.specs.Rows.{specification_at, parameters_of}
-use Rattle.staged_meaning.specs.Program.{is_expression}
+use Rattle.meaning_state.specs.Rows.{specification_at, parameters_of, table_trap, arena_trap, next_function}
+use Rattle.staged_meaning.specs.Program.{is_expression, syntax_size}
 use Rattle.staged_meaning.specs.Specifications.{fits, specification_of}
 use Rattle.typed_tree.specs.declared.expression.CaptureKind.{CaptureKind}
 use Rattle.typed_tree.specs.declared.expression.CaptureKind.TheVariants as kind
@@ -35,6 +36,7 @@ use Rattle.icode_meaning.specs.State.{Draft, Summing, Filling}
 use Rattle.icode_meaning.specs.Steps.{uses_on, paid, sharing, moved_on, set, goes_on, unless, begun, entered, call_at}
 use Rattle.icode_meaning.specs.Steps.{call_row, set_from, left, back, take, address_of, act, checked, advance, zeroing}
 use Rattle.icode_meaning.specs.Steps.{zeroed_on, word_zeroed, specifies, untrapped, enter, call_compiled, call_number}
+use Rattle.icode_meaning.specs.Steps.{compiles, compile_row}
 use Rattle.icode_meaning.specs.Steps.{function_for, with_event, is_right, is_there, syntax_of, filled}
 use Rattle.icode_meaning.specs.Steps.{adds, checks, size_in, parameters_in, is_kind, news, makes, making}
 
@@ -94,6 +96,23 @@ call_compiled_is program o number (Some body) count frame arguments waiting log 
     by true = enter_is (function_for program body.syntax (ARENA + 4 * body.first)) frame arguments
         waiting (with_event number (paid o log))
     by false = tt
+
+compiles_is : (program : Program) (o : Op) (to : ℕ) (syntax : Syntax) (frame : Frame) (waiting : List Frame) (log : Log)
+    → IsFaultless (compiles program o to syntax frame waiting log)
+compiles_is program o to syntax frame waiting log =
+    let size : ℕ = syntax_size program.source syntax in
+    unless_is (table_trap (next_function (length program.source.functions) log.shared)) (paid o log) _
+    (unless_is (arena_trap size log.shared) (paid o log) (Compiling size syntax to frame waiting log) tt)
+
+compile_row_is : (program : Program) (o : Op) (to : ℕ) (row : Option Specification) (frame : Frame)
+    (waiting : List Frame) (log : Log) → IsFaultless (compile_row program o to row frame waiting log)
+compile_row_is program o to (Some (Expression syntax)) frame waiting log =
+    compiles_is program o to syntax frame waiting log
+compile_row_is program o to (Some (Statement syntax)) frame waiting log =
+    compiles_is program o to syntax frame waiting log
+compile_row_is program o to (Some Local) frame waiting log = tt
+compile_row_is program o to (Some (Param index)) frame waiting log = tt
+compile_row_is program o to None frame waiting log = tt
 
 call_number_is : (program : Program) (o : Op) (number count : ℕ) (frame : Frame) (arguments : ℕ → Option ℕ)
     (waiting : List Frame) (log : Log) → IsFaultless (call_number program o number count frame arguments waiting log)
@@ -298,6 +317,9 @@ module _ (program : Program) where
       unless_is (index_trap (frame.values from)) (paid (Run run.Parameter to from) log)
       (specifies (Param (frame.values from)) to frame waiting (paid (Run run.Parameter to from) log))
       (specifies_is (Param (frame.values from)) to frame waiting (paid (Run run.Parameter to from) log))
+  act_is (Run run.Compile to from) frame arguments answer waiting log =
+      compile_row_is program (Run run.Compile to from) to (specification_at (frame.values from) log.shared) frame
+      waiting log
   act_is _ frame arguments answer waiting log = tt
 
   checked_is : (x : Option Op) (frame : Frame) (arguments : ℕ → Option ℕ) (answer : Option ℕ) (waiting : List Frame)
@@ -316,7 +338,8 @@ module _ (program : Program) where
       zeroed_on_is more address frame waiting (word_zeroed address log)
   advance_is (Making draft frame waiting log) h =
       making_is program (slice_get frame.function.ops frame.index) draft frame waiting log
-  advance_is (Compiling more syntax to frame waiting log) h = tt
+  advance_is (Compiling zero syntax to frame waiting log) h = tt
+  advance_is (Compiling (suc more) syntax to frame waiting log) h = tt
   advance_is (Halted e log) h = h
   advance_is (Stuck log) h = tt
 

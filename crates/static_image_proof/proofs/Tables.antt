@@ -1,10 +1,10 @@
 -- The rows of the image's functions are published as a run begins, and no others; each has the address of its function,
 -- and how many parameters it has.
-use Rattle.std.proofs.Common.{◌≡◌, ℕ, zero, suc, ◌-◌, ◌<◌, ◌≤◌, List, [], ◌∷◌, length, map, Option, None, Some, refl}
+use Rattle.std.proofs.Common.{◌≡◌, ℕ, zero, suc, ◌-◌, ◌<◌, ◌≤◌, List, [], ◌∷◌, length, map, None, Some, refl}
 use Rattle.std.proofs.Common.{sym}
 use Rattle.std.proofs.Common.{ap, ◌∙◌, arith, slice_get, slice_index, slice_index_or}
 use Rattle.limits.specs.declared.program.TheConstants.{MOST_FUNCTIONS}
-use Rattle.word32.specs.declared.map.TheConstants.{FUNCTION_ROWS, UNPUBLISHED}
+use Rattle.word32.specs.declared.map.TheConstants.{ARENA, FUNCTION_ROWS, UNPUBLISHED}
 use Rattle.code_arena.specs.Rows as table
 use Rattle.meaning_state.specs.Rows.{numbered}
 use Rattle.icode_meaning.specs.State.{Program}
@@ -46,9 +46,13 @@ module _ (rs : List (ℕ × ℕ)) (few : length rs ≤ MOST_FUNCTIONS) (program 
   published_row zero a k e = absurd cc
   published_row (suc m) a k e = let h = there rs m (a, k) (table.first (suc m)) e in (omega (arith, h.0, few), h.1)
 
-  other_row : (n : ℕ) → n < FUNCTION_ROWS → numbered n rs ≡ None → (table.numbered rs n).1 ≡ UNPUBLISHED
-  other_row zero low e = refl
-  other_row (suc m) low e = ap (λ (r : ℕ × ℕ). r.1) (not_there rs m (table.first (suc m)) e)
+  other_row : (n : ℕ) → n < FUNCTION_ROWS → numbered n rs ≡ None
+      → ((table.numbered rs n).0 < ARENA) × ((table.numbered rs n).1 ≡ UNPUBLISHED)
+  other_row zero low e = (omega arith, refl)
+  other_row (suc m) low e =
+      let same = not_there rs m (table.first (suc m)) e in
+      let none = ap (λ (r : ℕ × ℕ). r.0) same in
+      (omega (arith, none), ap (λ (r : ℕ × ℕ). r.1) same)
 
   pub published : Published program (table.numbered rs)
   published = record {
