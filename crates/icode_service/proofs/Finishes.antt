@@ -4,13 +4,14 @@ use Rattle.std.proofs.Common.{Result, Ok, Err, length, refl, sym, ap, subst, ◌
 use Rattle.std.specs.Prelude.{if◌then◌else◌, take}
 use Rattle.std.proofs.lemmas.Option.{none-some}
 use Rattle.code_arena.specs.Arena.{Arena}
-use Rattle.icode_ir.specs.Build.{Build}
+use Rattle.icode_ir.specs.Build.{Build, finished}
 use Rattle.icode_ir.specs.Building.{Building}
 use Rattle.mips_model.specs.declared.bad_service.BadService.{BadService}
 use Rattle.mips_model.specs.declared.bad_service.BadService.TheVariants as reason
-use Rattle.mips_model.specs.Choices.{Choice}
+use Rattle.mips_model.specs.Choices.{Choice, IsScanned}
 use Rattle.mips_model.specs.CodeServices as services
 use Rattle.mips_model.specs.CodeServices.{Generator, Rows, is_done, finish_refusal}
+use Rattle.mips_model.proofs.Legal.{choices-are-legal}
 use Rattle.icode_service.specs.Served.{Did, ChosenFor}
 use Rattle.icode_service.specs.Held.{generator}
 use Rattle.icode_service.specs.Made.{IsMade, IsBad}
@@ -39,6 +40,13 @@ chosen_some :
 chosen_some at most frame g b choice e h =
     subst (λ (o : Option Build). ChosenFor o at most frame choice) (sym e) h
 
+-- linear scan's choice is legal
+scanned_some :
+    (at most frame : ℕ) (g : Generator) (b : Build) (choice : Choice) → g.build ≡ Some b →
+    IsScanned (finished b) b.registers choice → ChosenFor g.build at most frame choice
+scanned_some at most frame g b choice e h =
+    chosen_some at most frame g b choice e (λ _. (h, choices-are-legal (finished b) b.registers choice h))
+
 pub left_over :
     (b : Build) (at most frame : ℕ) → is_done b ≡ false → finish_refusal b at most frame ≡ Some reason.NotEmpty
 left_over b at most frame h =
@@ -59,7 +67,7 @@ bad at most frame g new b why before after e p q (inl h) = (
 )
 bad at most frame g new b why before after e p q (inr s) = (
   s.1.choice,
-  chosen_some at most frame g b s.1.choice e (λ _. s.1.scanned),
+  scanned_some at most frame g b s.1.choice e s.1.scanned,
   λ r. refused (services.finish s.1.choice at most frame g) why
       (finish_short s.1.choice at most frame g b e s.1.taken s.1.short
       ∙ ap (λ (x : BadService). services.Refused x) (sym s.0))
@@ -80,7 +88,7 @@ good at most frame g new b before after places spills words e p m =
     ∙ ap (λ (n : ℕ). let y : Generator =
     record { build = None; choices = m.choice.places; spills = g.spills + n } in y) m.spills_are) in (
       m.choice,
-      chosen_some at most frame g b m.choice e (λ _. m.scanned),
+      scanned_some at most frame g b m.choice e m.scanned,
       λ r. subst
           (λ (n : ℕ). Did (services.finish m.choice at most frame g) g new before after r r (Ok n))
           (sym m.words_are)

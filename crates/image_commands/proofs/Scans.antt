@@ -57,7 +57,8 @@ finish_alike (Some b) c d at most frame g p q = by (services.finish_refusal b at
     by : (why : Option BadService) → services.finish_refusal b at most frame ≡ why →
         outcome (services.finish_refusal b at most frame) c ≡ outcome (services.finish_refusal b at most frame) d
     by None is =
-        ap (outcome (services.finish_refusal b at most frame)) (one_choice (finished b) b.registers c d (p is) (q is))
+        ap (outcome (services.finish_refusal b at most frame))
+        (one_choice (finished b) b.registers c d (p is).0 (q is).0)
     by (Some why) is = ap (λ x. outcome x c) is ∙ sym (ap (λ x. outcome x d) is)
 
 -- ---- a world with another row

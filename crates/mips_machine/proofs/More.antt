@@ -6,10 +6,9 @@ use Rattle.std.specs.Io.KnownBytes.{Appends, Consumes}
 use Rattle.std.proofs.KnownBytes.{Consumes-nil, Consumes-trans, Appends-nil, Appends-trans}
 use Rattle.std.proofs.lemmas.Bool.{false≢true, cases_Bool, cases_lt}
 use Rattle.history.specs.Events.{Item, Out, In, Made, Entered, End, Input, output, outs}
-use Rattle.icode_ir.specs.Build.{Build, finished}
+use Rattle.icode_ir.specs.Build.{Build}
 use Rattle.icode_service.specs.Served.{ChosenFor}
 use Rattle.mips_model.specs.Choices.{Choice}
-use Rattle.mips_model.proofs.Legal.{choices-are-legal}
 use Rattle.mips_encoder.specs.declared.instruction.Instr.TheVariants.{Syscall}
 use Rattle.mips_model.specs.State.{World, register}
 use Rattle.mips_model.specs.Services.{generator_of, next_choice}
@@ -339,11 +338,11 @@ steps_end (suc k) j w e alive is =
     ∙ ap (λ (o : Option End). if is_some o then 0 else (1 + steps_within (k + j) (step w))) (alive 0 (omega arith))
     ∙ ap (λ n. 1 + n) (steps_end k j (step w) e (λ m lt. alive (suc m) (omega (arith, lt))) is) ∙ omega arith
 
--- the places of linear scan's choice are legal
+-- each choice of a service is legal
 legal_for : (o : Option Build) (at most frame : ℕ) (choice : Choice) → ChosenFor o at most frame choice →
     IsLegalFor o at most frame choice
 legal_for None at most frame choice is = tt
-legal_for (Some b) at most frame choice is = λ taken. choices-are-legal (finished b) b.registers choice (is taken)
+legal_for (Some b) at most frame choice is = λ taken. (is taken).1
 
 well : (w : World) → IsScannedAt w → IsWellChosen w
 well w is serving =

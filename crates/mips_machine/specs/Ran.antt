@@ -55,8 +55,8 @@ bytes_read (In w ∷ items) = if nat_eq w 4294967295 then bytes_read items else 
 bytes_read (Made f syntax ∷ items) = bytes_read items
 bytes_read (Entered f ∷ items) = bytes_read items
 
--- where the next instruction is the service that finishes a function, the choice of places is that of linear scan, if
--- the function gets as far as that
+-- where the next instruction is the service that finishes a function, the choice of places is that of linear scan, and
+-- legal, if the function gets as far as that
 abbrev pub IsScannedAt : World → Type 0
 IsScannedAt w =
     is_serving 66 w ≡ true → ChosenFor (generator_of w.state.d).build (register 4 w.state.d) (register 5 w.state.d)
