@@ -17,7 +17,7 @@ use Rattle.mips_machine.specs.Progress.{counts_of}
 use Rattle.staged_meaning.specs.Meaning.{Program}
 use Rattle.tick_tree.specs.declared.fault.Fault.{Fault}
 use Rattle.wellformed.specs.declared.typed.Typed.{Typed}
-use Rattle.source_commands.specs.Texts.{typed, typed_tree}
+use Rattle.source_commands.specs.Texts.{typed_tree}
 use Rattle.command_words.specs.Orders.{Order, run, build, exec, mean, asm, dis}
 use Rattle.tick_outcome.specs.declared.outcome.Outcome.{Outcome}
 use Rattle.tick_outcome.specs.declared.outcome.Outcome.TheVariants as outcome
@@ -27,7 +27,7 @@ use Rattle.image_commands.specs.Answers.{IsBare, outcome_of}
 use Rattle.image_commands.specs.Does.{Runs}
 use Rattle.image_commands.specs.Said.{Reports}
 use Rattle.image_commands.specs.Seen.{EndsBehind, IsInput, Account, account_of, ShowsRun}
-use Rattle.source_commands.specs.Rows.{file_of, longest_of, content_refusal, refusal, text_refusal, tree_refusal}
+use Rattle.source_commands.specs.Rows.{file_of, longest_of, content_refusal, refusal, text_refusal}
 use Rattle.source_commands.specs.Rows.{assembly_refusal, image_refusal}
 use Rattle.source_commands.proofs.Came.{Performed, Came}
 use Rattle.image_commands.proofs.Outcomes.{is_refusal, refusal_no_machine, is_of_machine, reported}
@@ -35,16 +35,9 @@ use Rattle.image_commands.proofs.Runs.{accounted, shows_run}
 
 -- ---- bytes that are refused
 
-text_kind : (r : Result Program Fault) (o : Outcome) → text_refusal r ≡ Some o → is_refusal o ≡ true
-text_kind (Ok program) o e = absurd cc
+text_kind : (r : Result Typed Fault) (o : Outcome) → text_refusal r ≡ Some o → is_refusal o ≡ true
+text_kind (Ok tree) o e = absurd cc
 text_kind (Err fault) o e = ap is_refusal (some_is e)
-  where
-    some_is : ◌≡◌ {A = Option Outcome} (Some (outcome.Refused fault)) (Some o) → o ≡ outcome.Refused fault
-    some_is q = cc
-
-tree_kind : (r : Result Typed Fault) (o : Outcome) → tree_refusal r ≡ Some o → is_refusal o ≡ true
-tree_kind (Ok tree) o e = absurd cc
-tree_kind (Err fault) o e = ap is_refusal (some_is e)
   where
     some_is : ◌≡◌ {A = Option Outcome} (Some (outcome.Refused fault)) (Some o) → o ≡ outcome.Refused fault
     some_is q = cc
@@ -65,10 +58,10 @@ image_kind (Err fault) o e = ap is_refusal (some_is e)
 
 content_kind : (order : Order) (bytes : List ℕ) (o : Outcome) → content_refusal order bytes ≡ Some o →
     is_refusal o ≡ true
-content_kind (run file steps) bytes o e = text_kind (typed bytes) o e
-content_kind (build file path) bytes o e = text_kind (typed bytes) o e
+content_kind (run file steps) bytes o e = text_kind (typed_tree bytes) o e
+content_kind (build file path) bytes o e = text_kind (typed_tree bytes) o e
 content_kind (exec file steps) bytes o e = image_kind (parsed bytes) o e
-content_kind (mean file units) bytes o e = tree_kind (typed_tree bytes) o e
+content_kind (mean file units) bytes o e = text_kind (typed_tree bytes) o e
 content_kind (asm file path) bytes o e = assembly_kind (assembled bytes) o e
 content_kind (dis file) bytes o e = image_kind (parsed bytes) o e
 

@@ -10,7 +10,7 @@ use Rattle.asm_passes.specs.declared.fault.AsmFault.{AsmFault}
 use Rattle.staged_meaning.specs.Meaning.{Program}
 use Rattle.tick_tree.specs.declared.fault.Fault.{Fault}
 use Rattle.wellformed.specs.declared.typed.Typed.{Typed}
-use Rattle.source_commands.specs.Texts.{typed, typed_tree, Means}
+use Rattle.source_commands.specs.Texts.{typed_tree, Means}
 use Rattle.command_words.specs.Orders.{Order, run, build, exec, mean, asm, dis}
 use Rattle.tick_outcome.specs.declared.outcome.Outcome.{Outcome}
 use Rattle.tick_outcome.specs.declared.outcome.Outcome.TheVariants.{Refused, AsmRefused, LoadFault, TooLong, BadImage}
@@ -18,18 +18,20 @@ use Rattle.tick_outcome.specs.declared.ended.Ended.{Ended}
 use Rattle.image_commands.specs.Outside.{Outside}
 use Rattle.image_commands.specs.Answers.{IsBare, longest_text, longest_image}
 use Rattle.image_commands.specs.Does.{WithFile, WithAssembled, WithImage, Answered, Unsaved}
-use Rattle.source_commands.specs.Does.{WithProgram, WithTree, Does}
+use Rattle.source_commands.specs.Does.{WithProgram, Does}
 use Rattle.image_commands.specs.Does.{Unprinted, Runs, SavesImage, PrintsText}
 use Rattle.source_commands.specs.Does.{RunsProgram, MeansProgram, SavesProgram}
-use Rattle.source_commands.specs.Rows.{file_of, longest_of, text_refusal, tree_refusal, assembly_refusal, image_refusal}
+use Rattle.source_commands.specs.Rows.{file_of, longest_of, text_refusal, assembly_refusal, image_refusal}
 use Rattle.source_commands.specs.Rows.{refusal}
 
 -- what an order does with the bytes of its file
 abbrev pub Performed : Order → Outside → Outside → Ended → List ℕ → Type 0
 Performed (run file steps) old new e bytes =
-    (program : Program) × (typed bytes ≡ Ok program) × RunsProgram steps old new e bytes program
+    (tree : Typed) × (typed_tree bytes ≡ Ok tree) ×
+    ((program : Program) × Means tree program × RunsProgram steps old new e bytes program)
 Performed (build file path) old new e bytes =
-    (program : Program) × (typed bytes ≡ Ok program) × SavesProgram path old.file new.file e bytes program
+    (tree : Typed) × (typed_tree bytes ≡ Ok tree) ×
+    ((program : Program) × Means tree program × SavesProgram path old.file new.file e bytes program)
 Performed (exec file steps) old new e bytes =
     (image : ImageParts) × (parsed bytes ≡ Ok image) × Runs steps old new e image
 Performed (mean file units) old new e bytes =
@@ -65,18 +67,12 @@ module _ (e : Ended) (answers : Outcome → Type 0) (bare : (o : Outcome) → an
       split true a = inl (TooLong, refl, bare TooLong a)
       split false n = by bytes n
 
-  of_program : (next : Program → Type 0) (found r : Result Program Fault) → found ≡ r →
-      MatchResult r next (λ fault. answers (Refused fault))
-      → Taken (text_refusal r) e ((program : Program) × (found ≡ Ok program) × next program)
-  of_program next found (Ok program) is n = inr (refl, (program, is, n))
-  of_program next found (Err fault) is a = inl (Refused fault, refl, bare (Refused fault) a)
-
-  of_tree : (next : Program → Type 0) (found r : Result Typed Fault) → found ≡ r →
+  of_program : (next : Program → Type 0) (found r : Result Typed Fault) → found ≡ r →
       MatchResult r (λ tree. (program : Program) × Means tree program × next program) (λ fault. answers (Refused fault))
-      → Taken (tree_refusal r) e
+      → Taken (text_refusal r) e
       ((tree : Typed) × (found ≡ Ok tree) × ((program : Program) × Means tree program × next program))
-  of_tree next found (Ok tree) is n = inr (refl, (tree, is, n))
-  of_tree next found (Err fault) is a = inl (Refused fault, refl, bare (Refused fault) a)
+  of_program next found (Ok tree) is n = inr (refl, (tree, is, n))
+  of_program next found (Err fault) is a = inl (Refused fault, refl, bare (Refused fault) a)
 
   of_assembly : (next : ImageParts → Type 0) (found r : Result ImageParts AsmFault) → found ≡ r →
       MatchResult r next (λ fault. answers (AsmRefused fault))
@@ -92,27 +88,29 @@ module _ (e : Ended) (answers : Outcome → Type 0) (bare : (o : Outcome) → an
 
 pub came : (order : Order) (old new : Outside) (e : Ended) → Does order old new e → Came order old new e
 came (run file steps) old new e d =
-    from_file e (Answered old new e) (λ o a. a.0) (old.file file) longest_text (λ bytes. text_refusal (typed bytes))
-    (WithProgram (Answered old new e) (RunsProgram steps old new e)) (Performed (run file steps) old new e)
-    (λ bytes. of_program e (Answered old new e) (λ o a. a.0) (RunsProgram steps old new e bytes) (typed bytes)
-    (typed bytes) refl) d
+    from_file e (Answered old new e) (λ o a. a.0) (old.file file) longest_text
+    (λ bytes. text_refusal (typed_tree bytes))
+    (λ bytes. WithProgram (Answered old new e) (RunsProgram steps old new e bytes) bytes)
+    (Performed (run file steps) old new e)
+    (λ bytes. of_program e (Answered old new e) (λ o a. a.0) (RunsProgram steps old new e bytes) (typed_tree bytes)
+    (typed_tree bytes) refl) d
 came (exec file steps) old new e d =
     from_file e (Answered old new e) (λ o a. a.0) (old.file file) longest_image (λ bytes. image_refusal (parsed bytes))
     (WithImage (Answered old new e) (Runs steps old new e)) (Performed (exec file steps) old new e)
     (λ bytes. of_image e (Answered old new e) (λ o a. a.0) (Runs steps old new e) (parsed bytes) (parsed bytes) refl) d
 came (mean file units) old new e d =
     from_file e (Answered old new e) (λ o a. a.0) (old.file file) longest_text
-    (λ bytes. tree_refusal (typed_tree bytes))
-    (WithTree (Answered old new e) (MeansProgram units old new e)) (Performed (mean file units) old new e)
-    (λ bytes. of_tree e (Answered old new e) (λ o a. a.0) (MeansProgram units old new e) (typed_tree bytes)
+    (λ bytes. text_refusal (typed_tree bytes))
+    (WithProgram (Answered old new e) (MeansProgram units old new e)) (Performed (mean file units) old new e)
+    (λ bytes. of_program e (Answered old new e) (λ o a. a.0) (MeansProgram units old new e) (typed_tree bytes)
     (typed_tree bytes) refl) d.1
 came (build file path) old new e d =
     from_file e (Unsaved old.file new.file e) (λ o a. a.0) (old.file file) longest_text
-    (λ bytes. text_refusal (typed bytes))
-    (WithProgram (Unsaved old.file new.file e) (SavesProgram path old.file new.file e))
+    (λ bytes. text_refusal (typed_tree bytes))
+    (λ bytes. WithProgram (Unsaved old.file new.file e) (SavesProgram path old.file new.file e bytes) bytes)
     (Performed (build file path) old new e)
     (λ bytes. of_program e (Unsaved old.file new.file e) (λ o a. a.0) (SavesProgram path old.file new.file e bytes)
-    (typed bytes) (typed bytes) refl) d.1
+    (typed_tree bytes) (typed_tree bytes) refl) d.1
 came (asm file path) old new e d =
     from_file e (Unsaved old.file new.file e) (λ o a. a.0) (old.file file) longest_text
     (λ bytes. assembly_refusal (assembled bytes))

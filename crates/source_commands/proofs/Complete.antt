@@ -13,7 +13,7 @@ use Rattle.staged_meaning.specs.Meaning.{Program, meant}
 use Rattle.static_image.specs.Headline.{Headline}
 use Rattle.tick_tree.specs.declared.fault.Fault.{Fault}
 use Rattle.wellformed.specs.declared.typed.Typed.{Typed}
-use Rattle.source_commands.specs.Texts.{typed, typed_tree, Means}
+use Rattle.source_commands.specs.Texts.{typed_tree, Means, IsProgramOf}
 use Rattle.tick_gen.specs.Source.{source}
 use Rattle.command_words.specs.Orders.{Order, run, build, exec, mean, asm, dis, of_file, gen}
 use Rattle.command_words.specs.Words.{order_of}
@@ -38,6 +38,7 @@ use Rattle.source_commands.proofs.Calls.{IsDone, shows, input_ends}
 use Rattle.source_commands.proofs.Endings.{order_shows, evaluated_at}
 use Rattle.source_commands.proofs.Meanings.{WasMeant, mean_done, one_meant, one_units, long_input, whole_read}
 use Rattle.source_commands.proofs.Meant.{in_time, moved_alike}
+use Rattle.source_commands.proofs.Programs.{means_as_it_runs}
 use Rattle.image_commands.proofs.Outcomes.{seen_whole}
 use Rattle.source_commands.proofs.Rows.{fulfilled, performed, refused_front}
 
@@ -119,7 +120,7 @@ module _ (words : List (List ℕ)) (old new : Outside) (before now : Failures) (
     order_done (run path steps) bytes none units d = absurd cc
     order_done (exec path steps) bytes none units d = absurd cc
     order_done (mean path units) bytes none other d = absurd cc
-    order_done (build path image) bytes none units (program, is, s) =
+    order_done (build path image) bytes none units (tree, is, (program, means, s)) =
         saved_done image s.saves.bytes old.file new.file s.saves.saved
     order_done (asm path image) bytes none units (parts, is, s) = saved_done image s.bytes old.file new.file s.saved
     order_done (dis path) bytes none units (parts, is, inl p) = p.0.outcome
@@ -173,27 +174,25 @@ module _ (words : List (List ℕ)) (old new : Outside) (before now : Failures) (
   -- ---- a told text that is accepted
 
   accepted_is : (file text : List ℕ) (steps : ℕ) (program : Program) → nat_lt longest_text (length text) ≡ false →
-      typed text ≡ Ok program → refusal (run file steps) text ≡ None
-  accepted_is file text steps program short is = rw short (rw is refl)
-
-  one_program : (r : Result Program Fault) (a b : Program) → r ≡ Ok a → r ≡ Ok b → a ≡ b
-  one_program r a b p q = cc
+      IsProgramOf text program → refusal (run file steps) text ≡ None
+  accepted_is file text steps program short of = rw short (rw of.is_typed refl)
 
   pub completes : (file text : List ℕ) (steps : ℕ) (program : Program) (bytes : List ℕ) (units : ℕ) (end : Ending)
       → order_of words ≡ Ok (of_file (run file steps)) → old.file file ≡ Some (Some text) →
-      nat_lt longest_text (length text) ≡ false → typed text ≡ Ok program
+      nat_lt longest_text (length text) ≡ false → IsProgramOf text program
       → old.left ≡ Some bytes → (meant program (told bytes) units).ending ≡ Some (Ended end) → allowed units ≤ steps
       → (e.outcome ≡ outcome_at steps (Some (Ended end))) ×
       Moves old.left new.left old.taken new.taken (meant program (told bytes) units).history
   completes file text steps program bytes units end ordered is_told short is left ends le =
       let accepted = accepted_is file text steps program short is in
       let d = done (run file steps) text ordered is_told accepted in
-      let r = d.done.2 in
+      let r = d.done.2.2 in
       let shown = told_run (run file steps) text ordered is_told accepted steps bytes r.image left
       (shows steps old new at_first r.image r.runs) in
       let whole : d.bytes ≡ text =
       loaded (run file steps) text ordered is_told accepted d.bytes d.loads ∙ all_of text short in
-      let same = one_program (typed text) d.done.0 program (ap typed (sym whole) ∙ d.done.1) is in
+      let same = means_as_it_runs text d.done.2.0 program
+      (record { tree = d.done.0; is_typed = ap typed_tree (sym whole) ∙ d.done.1; means = d.done.2.1 }) is in
       let there = in_time program r.image (subst (λ p. Headline p r.image) same r.headline) shown.0 (told bytes)
       steps units (Ended end) shown.4 ends le in (
         said_first ∙ shown.2 ∙ ap (outcome_at steps) there.0,

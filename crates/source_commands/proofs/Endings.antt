@@ -63,7 +63,7 @@ one_number a b q = cc
 pub order_shows : (order : Order) (steps : ℕ) (old new : Outside) (e : code.Ended) (bytes : List ℕ) →
     most_steps order ≡ Some steps
     → Performed order old new e bytes → IsShown steps old new e
-order_shows (run file n) steps old new e bytes most (program, is, r) = record {
+order_shows (run file n) steps old new e bytes most (tree, is, (program, means, r)) = record {
   image = r.image;
   handed_back = r.runs.1.handed_back;
   shown = subst (λ k. ShowsRun k r.image (account_of e) old.left new.left old.taken new.taken e.outcome)
@@ -144,7 +144,7 @@ order_ends words old new e (mean file units) ordered is d =
     by of (inr (inl failed)) = no_ending is failed refl
     by of (inr (inr v)) = inr (meant_call words old new e of v)
 order_ends words old new e (build file path) ordered is d =
-    saved_ends path d.done.2.saves.bytes old.file new.file e is d.done.2.saves.saved
+    saved_ends path d.done.2.2.saves.bytes old.file new.file e is d.done.2.2.saves.saved
 order_ends words old new e (asm file path) ordered is d =
     saved_ends path d.done.2.bytes old.file new.file e is d.done.2.saved
 order_ends words old new e (dis file) ordered is d = by d.done.2
@@ -429,7 +429,7 @@ module _ (words : List (List ℕ)) (old new : Outside) (before now : Failures) (
     run_means file steps o ordered same machine =
         let d = is_done (run file steps) old new at_first (run_by_outcome at_first first_machine)
         (performed words old new at_first (run file steps) ordered did.1) in
-        let r = d.done.2 in
+        let r = d.done.2.2 in
         let s = subst (ShowsRun steps r.image (account_of e) old.left new.left old.taken new.taken) same
         (shows_reported text steps r.image (account_of e) old.left new.left old.taken new.taken taken told first
         e.outcome err_before err_now did.3
@@ -438,11 +438,11 @@ module _ (words : List (List ℕ)) (old new : Outside) (before now : Failures) (
           text = d.bytes;
           loads = d.loads;
           short = short_enough (run file steps) d.bytes d.fine;
-          program = d.done.0;
-          accepted = d.done.1;
+          program = d.done.2.0;
+          accepted = record { tree = d.done.0; is_typed = d.done.1; means = d.done.2.1 };
           input = s.input;
           is_input = s.is_input;
-          tells = tells_meaning d.done.0 r.image r.headline steps old new (account_of e) o s;
+          tells = tells_meaning d.done.2.0 r.image r.headline steps old new (account_of e) o s;
         }
       where
         first_machine : is_of_machine first ≡ true

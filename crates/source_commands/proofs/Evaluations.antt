@@ -13,13 +13,13 @@ use Rattle.tick_outcome.specs.declared.outcome.Outcome.{Outcome}
 use Rattle.tick_outcome.specs.declared.outcome.Outcome.TheVariants as outcome
 use Rattle.tick_outcome.specs.declared.ended.Ended as code
 use Rattle.image_commands.specs.Answers.{IsBare}
-use Rattle.source_commands.specs.Does.{WithTree, Evaluates}
+use Rattle.source_commands.specs.Does.{WithProgram, Evaluates}
 use Rattle.image_commands.specs.Seen.{told, outcome_at}
 
 -- an accepted text, and what is done with its program
 pub with_tree : (answers : Outcome → Type 0) (next : Program → Type 0) (text : List ℕ) (tree : Typed)
     → typed_tree text ≡ Ok tree → (program : Program) × Means tree program
-    → ((program : Program) → Means tree program → next program) → WithTree answers next text
+    → ((program : Program) → Means tree program → next program) → WithProgram answers next text
 with_tree answers next text tree is (program, means) then = rw is (program, means, then program means)
 
 -- an evaluation whose output was written, or a front part of it

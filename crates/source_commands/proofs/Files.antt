@@ -23,7 +23,7 @@ use Rattle.staged_meaning.specs.Program.{Tick}
 use Rattle.staged_meaning.specs.Source.{ticks_of}
 use Rattle.static_image.specs.Layout.{Placed, functions_of, unknown, image_of}
 use Rattle.static_backend.specs.Scanned.{IsScan, IsScanned}
-use Rattle.built_programs.specs.Built.{Main, built}
+use Rattle.accepted_programs.specs.Mains.{Main, main_in}
 use Rattle.source_commands.specs.Texts.{typed_tree, Lowered, Builds}
 use Rattle.source_commands.specs.Saved.{IsFileOf, HeadlineOfBytes, Saves}
 use Rattle.image_commands.proofs.Intervals.{one_list}
@@ -128,8 +128,8 @@ one_main o a b is also = ap (main_or a) (sym is ∙ also)
 pub one_lowered : (text : List ℕ) (a b : ImageParts) → Lowered text a → Lowered text b → a ≡ b
 one_lowered text a b s t =
     let trees = one_tree (typed_tree text) s.tree t.tree s.is_typed t.is_typed in
-    let mains = one_main (built t.tree) s.main t.main
-    (subst (λ (tree : Typed). built tree ≡ Some s.main) trees s.is_built) t.is_built in
+    let mains = one_main (main_in t.tree) s.main t.main
+    (subst (λ (tree : Typed). main_in tree ≡ Some s.main) trees s.is_main) t.is_main in
     let moved =
     subst (λ (tree : Typed). IsScanned tree.image (program_view tree).functions (ticks_of tree) s.main.number a) trees
     s.scanned in

@@ -4,7 +4,7 @@ use Rattle.std.specs.Io.KnownBytes.{Keeps}
 use Rattle.host_edge.specs.Files.{Loads}
 use Rattle.image_file.specs.Image.{ImageParts}
 use Rattle.staged_meaning.specs.Meaning.{Program}
-use Rattle.source_commands.specs.Texts.{typed}
+use Rattle.source_commands.specs.Texts.{IsProgramOf}
 use Rattle.tick_outcome.specs.declared.outcome.Outcome.{Outcome}
 use Rattle.tick_outcome.specs.declared.outcome.Outcome.TheVariants as outcome
 use Rattle.image_commands.specs.declared.ended.Front.TheVariants.{Found, Instead}
@@ -21,11 +21,11 @@ use Rattle.image_commands.proofs.Saves.{saves_on}
 use Rattle.image_commands.proofs.Fronts.{if_ok, in_file, found}
 
 module _ (answers : Outcome → Type 0) where
-  pub program : (next : List ℕ → Program → Type 0) (text : List ℕ) (p : Program) → typed text ≡ Ok p → next text p →
+  pub program : (next : Program → Type 0) (text : List ℕ) (p : Program) → IsProgramOf text p → next p →
       WithProgram answers next text
-  program next text p accepted n = rw accepted n
+  program next text p accepted n = rw accepted.is_typed (p, accepted.means, n)
 
-  pub refused : (next : List ℕ → Program → Type 0) (text : List ℕ) (o : Outcome) → IsRefused text o → answers o →
+  pub refused : (next : Program → Type 0) (text : List ℕ) (o : Outcome) → IsRefused text o → answers o →
       WithProgram answers next text
   refused next text (outcome.Refused fault) e a = rw e a
   refused next text (outcome.Done s) e a = absurd e
@@ -45,9 +45,9 @@ module _ (answers : Outcome → Type 0) where
 module _ (file path : List ℕ) (old mid new : Files) (e : Ended) (image : ImageParts) (same : SameFiles old mid)
     (s : SavesImage path mid new e image) where
   saves_program : (text : List ℕ) → IsBuilt text image →
-      WithProgram (Unsaved old new e) (SavesProgram path old new e) text
+      WithProgram (Unsaved old new e) (SavesProgram path old new e text) text
   saves_program text (p, accepted, headline, choices, lowering) =
-      program (Unsaved old new e) (SavesProgram path old new e) text p accepted
+      program (Unsaved old new e) (SavesProgram path old new e text) text p accepted
       (record {
         image = image;
         lowering = lowering;
@@ -59,7 +59,7 @@ module _ (file path : List ℕ) (old mid new : Files) (e : Ended) (image : Image
 
   pub builds : IsFront (old file) longest_text IsBuilt IsRefused (Found image) → BuildsFile file path old new e
   builds f = found (Unsaved old new e) (old file) longest_text IsBuilt IsRefused
-      (WithProgram (Unsaved old new e) (SavesProgram path old new e)) image saves_program f
+      (λ text. WithProgram (Unsaved old new e) (SavesProgram path old new e text) text) image saves_program f
 
 -- where there is no image
 module _ (file path : List ℕ) (old new : Files) (e : Ended) where
@@ -69,8 +69,8 @@ module _ (file path : List ℕ) (old new : Files) (e : Ended) where
       → BuildsFile file path old new e
   refuses o a (bytes, loads, short, r) =
       in_file (Unsaved old new e) (old file) longest_text
-      (WithProgram (Unsaved old new e) (SavesProgram path old new e)) bytes loads short
-      (refused (Unsaved old new e) (SavesProgram path old new e) bytes o r a)
+      (λ text. WithProgram (Unsaved old new e) (SavesProgram path old new e text) text) bytes loads short
+      (refused (Unsaved old new e) (SavesProgram path old new e bytes) bytes o r a)
 
   pub builds_nothing : (o : Outcome) → Unsaved old new e o →
       IsFront (old file) longest_text IsBuilt IsRefused (Instead o) → BuildsFile file path old new e

@@ -1,4 +1,4 @@
--- The typed tree of an accepted text is a program: one of its functions is main. A program that runs is that one.
+-- The typed tree of an accepted text is a program: one of its functions is main.
 use Rattle.std.proofs.Common.{◌≡◌, ℕ, zero, suc, Bool, true, false, List, [], ◌∷◌, ◌+◌, map, Option, Some, None, Result}
 use Rattle.std.proofs.Common.{Ok}
 use Rattle.std.proofs.Common.{Err, codes, slice_get, ◌&&◌, if◌then◌else◌, refl, sym, ap, ◌∙◌, subst}
@@ -11,9 +11,9 @@ use Rattle.typed_tree.specs.View.{function_view}
 use Rattle.wellformed.specs.declared.typed.Typed.{Typed}
 use Rattle.wellformed.specs.Program.{IsWellFormed}
 use Rattle.staged_meaning.specs.Meaning.{Program}
-use Rattle.staged_meaning.specs.Source.{main_of, program_from, ticks_of}
-use Rattle.built_programs.specs.Built.{Main, main_from, are_bytes, are_functions_listed, are_ticks_listed, built}
-use Rattle.source_commands.specs.Texts.{Means, MeansAsItRuns, program_of, or_unbuilt, from_typed, typed_tree, typed}
+use Rattle.staged_meaning.specs.Source.{main_of, program_from, program_view, ticks_of}
+use Rattle.accepted_programs.specs.Mains.{Main, main_from, main_in}
+use Rattle.source_commands.specs.Texts.{Means, MeansAsItRuns, typed_tree}
 
 -- some function is found, where there is one of the name
 main_found : (fs : List Function) (n : ℕ) (f : Function) → slice_get fs n ≡ Some f → f.name ≡ codes "main"
@@ -41,7 +41,7 @@ is_program tree h =
     let found = main_found tree.functions h.main h.main_function h.is_main h.name in
     (_, ap (λ (o : Option Function). program_from o tree) found.1)
 
--- ---- a program that runs
+-- ---- its main
 
 -- both take the first function of the name
 main_as : (n : ℕ) (fs : List Function) (m : Main) → main_from n fs ≡ Some m
@@ -61,16 +61,18 @@ main_as n (g ∷ fs) m e =
         some_is q = cc
     by false other later e = let r = later e in (r.0, rw other r.1, r.2)
 
-chosen : (b : Bool) (o : Option Main) (m : Main) → (if b then o else None) ≡ Some m → o ≡ Some m
-chosen true o m e = e
-chosen false o m e = absurd cc
+-- the program of a tree with this main
+abbrev pub program_of : Typed → Main → Program
+program_of tree main = record {
+  main = main.function;
+  functions = map function_view tree.functions;
+  ticks = ticks_of tree;
+  image = tree.image;
+}
 
-runs_so : (tree : Typed) (m : Main) → built tree ≡ Some m → Means tree (program_of tree m)
-unfolding built
-runs_so tree m e =
-    let b = chosen (are_bytes tree.image && are_functions_listed tree.functions && are_ticks_listed tree.ticks)
-    (main_from 1 tree.functions) m e in
-    let f = main_as 1 tree.functions m b in
+pub means_so : (tree : Typed) (m : Main) → main_in tree ≡ Some m → Means tree (program_of tree m)
+means_so tree m e =
+    let f = main_as 1 tree.functions m e in
     ap (λ (o : Option Function). program_from o tree) f.1
     ∙ ap (λ main. Some (record {
       main = main;
@@ -79,19 +81,20 @@ runs_so tree m e =
       image = tree.image;
     })) (sym f.2)
 
-by_main : (tree : Typed) (program : Program) (o : Option Main) → built tree ≡ o → or_unbuilt tree o ≡ Ok program →
-    Means tree program
-by_main tree program None is e = absurd cc
-by_main tree program (Some m) is e = subst (λ (p : Program). Means tree p) (ok_is e) (runs_so tree m is)
+one_tree : (r : Result Typed Fault) (a b : Typed) → r ≡ Ok a → r ≡ Ok b → a ≡ b
+one_tree r a b p q = ok_is (sym p ∙ q)
   where
-    ok_is : ◌≡◌ {A = Result Program Fault} (Ok (program_of tree m)) (Ok program) → program_of tree m ≡ program
-    ok_is q = cc
+    ok_is : ◌≡◌ {A = Result Typed Fault} (Ok a) (Ok b) → a ≡ b
+    ok_is e = cc
 
-by_tree : (text : List ℕ) (program : Program) (r : Result Typed Fault) → typed_tree text ≡ r →
-    from_typed r ≡ Ok program → (tree : Typed) × (typed_tree text ≡ Ok tree) × Means tree program
-by_tree text program (Err fault) is e = absurd cc
-by_tree text program (Ok tree) is e = (tree, is, by_main tree program (built tree) refl e)
+one_meant : (o : Option Program) (a b : Program) → o ≡ Some a → o ≡ Some b → a ≡ b
+one_meant o a b p q = some_is (sym p ∙ q)
+  where
+    some_is : ◌≡◌ {A = Option Program} (Some a) (Some b) → a ≡ b
+    some_is e = cc
 
 pub means_as_it_runs : MeansAsItRuns
-unfolding typed
-means_as_it_runs text program accepted = by_tree text program (typed_tree text) refl accepted
+means_as_it_runs text program other a b =
+    one_meant (program_view b.tree) program other
+    (subst (λ (tree : Typed). Means tree program) (one_tree (typed_tree text) a.tree b.tree a.is_typed b.is_typed) a.means)
+    b.means

@@ -74,12 +74,12 @@ saved_refuses path bytes old new e (inr s) = ap is_refusal s.0.outcome
 -- any other order that is done refuses nothing
 done_refuses : (order : Order) (old new : Outside) (e : Ended) (bytes : List ℕ) → most_units order ≡ None →
     Performed order old new e bytes → is_refusal e.outcome ≡ false
-done_refuses (run file steps) old new e bytes none (program, is, r) =
+done_refuses (run file steps) old new e bytes none (tree, is, (program, means, r)) =
     ap is_refusal r.runs.1.outcome ∙ stop_refuses steps r.runs.1.stop
 done_refuses (exec file steps) old new e bytes none (image, is, r) =
     ap is_refusal r.1.outcome ∙ stop_refuses steps r.1.stop
 done_refuses (mean file units) old new e bytes none d = absurd cc
-done_refuses (build file path) old new e bytes none (program, is, s) =
+done_refuses (build file path) old new e bytes none (tree, is, (program, means, s)) =
     saved_refuses path s.saves.bytes old.file new.file e s.saves.saved
 done_refuses (asm file path) old new e bytes none (image, is, s) =
     saved_refuses path s.bytes old.file new.file e s.saved

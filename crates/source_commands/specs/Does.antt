@@ -9,7 +9,7 @@ use Rattle.host_edge.specs.declared.ending.Ending.{Ending}
 use Rattle.history.specs.Events.{output}
 use Rattle.history.specs.Events as event
 use Rattle.staged_meaning.specs.Meaning.{Program, meant}
-use Rattle.source_commands.specs.Texts.{typed, typed_tree, Means, Lowered, HoldsForChoices}
+use Rattle.source_commands.specs.Texts.{typed_tree, Means, Lowered, HoldsForChoices}
 use Rattle.static_image.specs.Headline.{Headline}
 use Rattle.command_words.specs.Orders.{Order, run, build, exec, mean, asm, dis}
 use Rattle.tick_outcome.specs.declared.outcome.Outcome.{Outcome}
@@ -21,9 +21,11 @@ use Rattle.image_commands.specs.Seen.{told, outcome_at}
 use Rattle.image_commands.specs.Does.{WithFile, Answered, Runs, ExecutesFile, Unsaved, SavesImage, AssemblesFile}
 use Rattle.image_commands.specs.Does.{Unprinted, PrintsFile}
 
--- a text of the language is accepted, or refused for its first static fault
-abbrev pub WithProgram : (answers : Outcome → Type 0) → (next : List ℕ → Program → Type 0) → List ℕ → Type 0
-WithProgram answers next text = MatchResult (typed text) (next text) (λ fault. answers (Refused fault))
+-- a text of the language is accepted, and is a program, or is refused for its first static fault
+abbrev pub WithProgram : (answers : Outcome → Type 0) → (next : Program → Type 0) → List ℕ → Type 0
+WithProgram answers next text =
+    MatchResult (typed_tree text) (λ tree. (program : Program) × Means tree program × next program)
+    (λ fault. answers (Refused fault))
 
 -- ---- run
 
@@ -38,7 +40,7 @@ pub record RunsProgram (steps : ℕ) (old new : Outside) (e : Ended) (text : Lis
 abbrev pub RunsFile : List ℕ → (steps : ℕ) → Outside → Outside → Ended → Type 0
 RunsFile file steps old new e =
     WithFile (old.file file) longest_text (Answered old new e)
-    (WithProgram (Answered old new e) (RunsProgram steps old new e))
+    (λ text. WithProgram (Answered old new e) (RunsProgram steps old new e text) text)
 
 -- ---- build
 
@@ -53,15 +55,10 @@ pub record SavesProgram (path : List ℕ) (old new : Files) (e : Ended) (text : 
 
 abbrev pub BuildsFile : List ℕ → (path : List ℕ) → Files → Files → Ended → Type 0
 BuildsFile file path old new e =
-    WithFile (old file) longest_text (Unsaved old new e) (WithProgram (Unsaved old new e) (SavesProgram path old new e))
+    WithFile (old file) longest_text (Unsaved old new e)
+    (λ text. WithProgram (Unsaved old new e) (SavesProgram path old new e text) text)
 
 -- ---- mean
-
--- a text of the whole language is accepted, and is a program, or is refused for its first static fault
-abbrev pub WithTree : (answers : Outcome → Type 0) → (next : Program → Type 0) → List ℕ → Type 0
-WithTree answers next text =
-    MatchResult (typed_tree text) (λ tree. (program : Program) × Means tree program × next program)
-    (λ fault. answers (Refused fault))
 
 -- The whole input is read: behind these bytes it is longer than it may be, or it fails, or it ends, and `next` says
 -- what is then done with them.
@@ -91,7 +88,7 @@ MeansProgram units old new e program =
 abbrev pub MeansFile : List ℕ → (units : ℕ) → Outside → Outside → Ended → Type 0
 MeansFile file units old new e =
     WithFile (old.file file) longest_text (Answered old new e)
-    (WithTree (Answered old new e) (MeansProgram units old new e))
+    (WithProgram (Answered old new e) (MeansProgram units old new e))
 
 -- ---- all commands
 

@@ -10,7 +10,7 @@ use Rattle.mips_model.specs.Choices.{Choice}
 use Rattle.mips_model.specs.Run.{runs}
 use Rattle.staged_meaning.specs.Meaning.{Program, meant}
 use Rattle.wellformed.specs.declared.typed.Typed.{Typed}
-use Rattle.source_commands.specs.Texts.{typed, typed_tree, Means}
+use Rattle.source_commands.specs.Texts.{typed_tree, Means, IsProgramOf}
 use Rattle.tick_gen.specs.Source.{source}
 use Rattle.command_words.specs.Orders.{Order, run, mean, of_file, gen}
 use Rattle.command_words.specs.Words.{order_of}
@@ -68,7 +68,7 @@ abbrev pub RunCompletes : Type 0
 RunCompletes =
     (c : Call) (file text : List ℕ) (steps : ℕ) (program : Program) (bytes : List ℕ) (units : ℕ) (end : Ending)
     → Did c → NothingFailed c → order_of c.words ≡ Ok (of_file (run file steps)) → c.old.file file ≡ Some (Some text)
-    → nat_lt longest_text (length text) ≡ false → typed text ≡ Ok program → c.old.left ≡ Some bytes
+    → nat_lt longest_text (length text) ≡ false → IsProgramOf text program → c.old.left ≡ Some bytes
     → (meant program (told bytes) units).ending ≡ Some (Ended end) → allowed units ≤ steps
     → (c.ended.outcome ≡ outcome_at steps (Some (Ended end)))
     × Moves c.old.left c.new.left c.old.taken c.new.taken (meant program (told bytes) units).history

@@ -10,7 +10,7 @@ use Rattle.history.specs.Events.{End, Input, output}
 use Rattle.history.specs.Events as event
 use Rattle.pace.specs.Pace.{IsPrefix, instructions_of_a_unit, instructions_besides}
 use Rattle.staged_meaning.specs.Meaning.{Program, meant}
-use Rattle.source_commands.specs.Texts.{typed}
+use Rattle.source_commands.specs.Texts.{IsProgramOf}
 use Rattle.tick_outcome.specs.declared.outcome.Outcome.{Outcome}
 use Rattle.tick_outcome.specs.declared.outcome.Outcome.TheVariants.{Done, Trap, OutOfSteps, ReadFault, WriteFault}
 use Rattle.image_commands.specs.Answers.{longest_text}
@@ -51,7 +51,7 @@ pub record RunIsMeant (file : List ℕ) (steps : ℕ) (old new : Outside) (outco
   pub loads : Loads (old.file file) (longest_text + 1) text
   pub short : nat_lt longest_text (length text) ≡ false
   pub program : Program
-  pub accepted : typed text ≡ Ok program
+  pub accepted : IsProgramOf text program
   pub input : Input
   pub is_input : IsInput old.left new.left outcome input
   pub tells : TellsMeaning program input steps old new outcome

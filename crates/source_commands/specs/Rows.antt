@@ -18,7 +18,7 @@ use Rattle.asm_passes.specs.declared.fault.AsmFault.{AsmFault}
 use Rattle.staged_meaning.specs.Meaning.{Program}
 use Rattle.tick_tree.specs.declared.fault.Fault.{Fault}
 use Rattle.wellformed.specs.declared.typed.Typed.{Typed}
-use Rattle.source_commands.specs.Texts.{typed, typed_tree}
+use Rattle.source_commands.specs.Texts.{typed_tree}
 use Rattle.command_words.specs.Orders.{Order, run, build, exec, mean, asm, dis, of_file}
 use Rattle.command_words.specs.Words.{order_of}
 use Rattle.tick_outcome.specs.declared.outcome.Outcome.{Outcome}
@@ -50,13 +50,9 @@ longest_of (mean file units) = longest_text
 longest_of (asm file path) = longest_text
 longest_of (dis file) = longest_image
 
-abbrev pub text_refusal : Result Program Fault → Option Outcome
-text_refusal (Ok program) = None
+abbrev pub text_refusal : Result Typed Fault → Option Outcome
+text_refusal (Ok tree) = None
 text_refusal (Err fault) = Some (Refused fault)
-
-abbrev pub tree_refusal : Result Typed Fault → Option Outcome
-tree_refusal (Ok tree) = None
-tree_refusal (Err fault) = Some (Refused fault)
 
 abbrev pub assembly_refusal : Result ImageParts AsmFault → Option Outcome
 assembly_refusal (Ok image) = None
@@ -66,13 +62,13 @@ abbrev pub image_refusal : Result ImageParts ImageFault → Option Outcome
 image_refusal (Ok image) = None
 image_refusal (Err fault) = Some (BadImage fault)
 
--- why the bytes of a file aren't what an order takes, if they aren't: `run` and `build` take a text of the language
--- that runs so far, `mean` a text of the whole language, `asm` an assembly text, `exec` and `dis` an image
+-- why the bytes of a file aren't what an order takes, if they aren't: `run`, `build` and `mean` take a text of the
+-- language, `asm` an assembly text, `exec` and `dis` an image
 abbrev pub content_refusal : Order → List ℕ → Option Outcome
-content_refusal (run file steps) bytes = text_refusal (typed bytes)
-content_refusal (build file path) bytes = text_refusal (typed bytes)
+content_refusal (run file steps) bytes = text_refusal (typed_tree bytes)
+content_refusal (build file path) bytes = text_refusal (typed_tree bytes)
 content_refusal (exec file steps) bytes = image_refusal (parsed bytes)
-content_refusal (mean file units) bytes = tree_refusal (typed_tree bytes)
+content_refusal (mean file units) bytes = text_refusal (typed_tree bytes)
 content_refusal (asm file path) bytes = assembly_refusal (assembled bytes)
 content_refusal (dis file) bytes = image_refusal (parsed bytes)
 

@@ -1,7 +1,6 @@
 -- Which texts are accepted, and the typed program of each: a text is refused exactly for its first static fault.
-use Rattle.std.specs.Prelude.{◌≡◌, ℕ, List, [], Option, Some, None, Result, Ok, Err}
+use Rattle.std.specs.Prelude.{◌≡◌, ℕ, List, [], Some, Result, Ok, Err}
 use Rattle.tick_tree.specs.declared.fault.Fault.{Fault}
-use Rattle.tick_tree.specs.declared.fault.FaultKind.TheVariants.{Unbuilt}
 use Rattle.tick_tree.specs.declared.fault.Deny.{Deny}
 use Rattle.tick_tree.specs.declared.fault.Deny.TheVariants as deny
 use Rattle.tick_tree.specs.declared.token.Token.{Token}
@@ -10,7 +9,7 @@ use Rattle.c_lexer.specs.Lex.{tokens}
 use Rattle.parse_spelling.specs.Trees.{parsed}
 use Rattle.wellformed.specs.declared.typed.Typed.{Typed}
 use Rattle.check_globals.specs.Program.{checked}
-use Rattle.built_programs.specs.Built.{Main, built}
+use Rattle.accepted_programs.specs.Mains.{Main, main_in}
 use Rattle.typed_tree.specs.View.{program_view}
 use Rattle.meaning_state.specs.Rows.{numbered}
 use Rattle.staged_meaning.specs.Meaning.{Program}
@@ -19,24 +18,6 @@ use Rattle.image_file.specs.Image.{ImageParts, IsImage}
 use Rattle.static_image.specs.Layout.{Placed, IsChoice, image_of}
 use Rattle.static_image.specs.Headline.{Headline}
 use Rattle.static_backend.specs.Scanned.{IsScanned}
-
--- a part of the language that isn't built yet
-abbrev pub unbuilt : Fault
-unbuilt = record { kind = Unbuilt; line = 1; token = 0 }
-
--- the program of a typed tree that runs so far, with its function main, and the bytes of its globals and strings
-abbrev pub program_of : Typed → Main → Program
-program_of tree main = record {
-  main = main.function;
-  functions = (program_view tree).functions;
-  ticks = source.ticks_of tree;
-  image =
-      tree.image;
-}
-
-abbrev pub or_unbuilt : Typed → Option Main → Result Program Fault
-or_unbuilt tree None = Err unbuilt
-or_unbuilt tree (Some main) = Ok (program_of tree main)
 
 abbrev pub from_tree : Result Tree Fault → Result Typed Fault
 from_tree (Err fault) = Err fault
@@ -50,23 +31,20 @@ from_tokens text (Ok found) = from_tree (parsed text found)
 unfoldable pub typed_tree : List ℕ → Result Typed Fault
 typed_tree text = from_tokens text (tokens text)
 
--- the program that a typed tree is in the whole language, whose meaning can be evaluated whether it runs or not
+-- the program that a typed tree is
 abbrev pub Means : Typed → Program → Type 0
 Means tree program = source.program_view tree ≡ Some program
 
-abbrev pub from_typed : Result Typed Fault → Result Program Fault
-from_typed (Err fault) = Err fault
-from_typed (Ok tree) = or_unbuilt tree (built tree)
+-- the text is accepted, and this is its program
+pub record IsProgramOf (text : List ℕ) (program : Program) : Type 0 where
+  pub tree : Typed
+  pub is_typed : typed_tree text ≡ Ok tree
+  pub means : Means tree program
 
--- the program of a text, or its first static fault, or that it uses what isn't built yet
-unfoldable pub typed : List ℕ → Result Program Fault
-typed text = from_typed (typed_tree text)
-
--- a program that runs is the one that the text is in the whole language, so a run and an evaluation have one meaning
+-- a text is at most one program, so a run and an evaluation have one meaning
 abbrev pub MeansAsItRuns : Type 0
 MeansAsItRuns =
-    (text : List ℕ) (program : Program) → typed text ≡ Ok program
-    → (tree : Typed) × (typed_tree text ≡ Ok tree) × Means tree program
+    (text : List ℕ) (program other : Program) → IsProgramOf text program → IsProgramOf text other → program ≡ other
 
 -- The image that is built of a text: the image of its functions and ticks and of the bytes of its globals and strings,
 -- under the places that linear scan gives to the registers of each function. A text has one such image.
@@ -74,7 +52,7 @@ pub record Lowered (text : List ℕ) (image : ImageParts) : Type 0 where
   pub tree : Typed
   pub is_typed : typed_tree text ≡ Ok tree
   pub main : Main
-  pub is_built : built tree ≡ Some main
+  pub is_main : main_in tree ≡ Some main
   pub scanned : IsScanned tree.image (program_view tree).functions (source.ticks_of tree) main.number image
 
 -- the headline holds for the image of a program under every legal choice of places of its functions' registers
@@ -87,21 +65,21 @@ HoldsForChoices program =
 -- program under legal places
 pub record Builds (text : List ℕ) (image : ImageParts) : Type 0 where
   pub program : Program
-  pub accepted : typed text ≡ Ok program
+  pub accepted : IsProgramOf text program
   pub lowering : Lowered text image
   pub rules : IsImage image
   pub headline : Headline program image
   pub choices : HoldsForChoices program
 
 -- a refusal has its cause, but for want of memory
-abbrev pub Refuses : {A : Type 0} → Result Program Fault → Result A Deny → Type 0
+abbrev pub Refuses : {A : Type 0} → Result Typed Fault → Result A Deny → Type 0
 Refuses found (Ok a) = Unit {0}
 Refuses found (Err (deny.Refused fault)) = found ≡ Err fault
 Refuses found (Err deny.NoMemory) = Unit {0}
 
--- the image of a program, or that it is none that is built; want of memory is free
+-- the image of a program; want of memory is free
 abbrev pub Backs : Typed → Result ImageParts Deny → Type 0
-Backs tree (Ok image) = (main : Main) × (built tree ≡ Some main) ×
+Backs tree (Ok image) = (main : Main) × (main_in tree ≡ Some main) ×
     IsScanned tree.image (program_view tree).functions (source.ticks_of tree) main.number image
-Backs tree (Err (deny.Refused fault)) = (built tree ≡ None) × (fault ≡ unbuilt)
+Backs tree (Err (deny.Refused fault)) = ⊥
 Backs tree (Err deny.NoMemory) = Unit {0}

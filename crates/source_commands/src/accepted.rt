@@ -3,31 +3,23 @@
 ghost use Rattle.std.specs.Prelude.{◌≡◌, ◌≤◌, length, IfOk};
 ghost use Rattle.tick_tree.specs.Faults.{Checks};
 ghost use Rattle.staged_meaning.specs.Meaning.{Program};
+ghost use Rattle.accepted_programs.specs.Mains.{IsOfWords};
 ghost use Rattle.source_commands.specs.Texts as spec;
 ghost use Rattle.source_commands.specs.Texts.{Builds};
 ghost use Rattle.source_commands.specs.Saved.{Saves};
 ghost use Rattle.limits.specs.declared.text.TheConstants.{LONGEST_TEXT};
 
 use crate::language::Language;
-use built_programs::{built_is_static, main_of};
+use accepted_programs::{main_of, programs_meet_backend};
 use c_lexer::tokens;
 use image_file::{Image, write};
-use static_image::{headline_holds, images_keep_rules};
+use known_closures_proof::programs_are_meant;
+use static_image::images_keep_rules;
+use static_image_proof::headline_holds;
 use std::alloc::Global;
 use std::mem::forget;
-use tick_tree::{Deny, Fault, FaultKind};
+use tick_tree::Deny;
 use wellformed::Typed;
-
-// The text uses a part of the language that isn't built yet.
-fn unbuilt() -> Fault
-    ensures { result ≡ spec.unbuilt }
-{
-    Fault {
-        kind: FaultKind::Unbuilt,
-        line: 1,
-        token: 0,
-    }
-}
 
 // The typed tree of a text.
 #[tactic(auto, unfolding(crate::specs::Texts::typed_tree))]
@@ -42,8 +34,7 @@ fn from_text<L: Language>(alloc: Global, text: &[u8]) -> Result<Typed, Deny>
     typed
 }
 
-/// The typed tree of a text of at most 1,048,576 bytes, or its first static fault. It is a program, which has a meaning
-/// whether it runs so far or not.
+/// The typed tree of a text of at most 1,048,576 bytes, or its first static fault. It is a program, which has a meaning.
 #[tactic(auto, using(crate::proofs::Programs::is_program))]
 pub fn typed_tree<L: Language>(alloc: Global, text: &[u8]) -> Result<Typed, Deny>
     requires { length text.now ≤ LONGEST_TEXT }
@@ -55,25 +46,24 @@ pub fn typed_tree<L: Language>(alloc: Global, text: &[u8]) -> Result<Typed, Deny
     Ok(tree)
 }
 
-// The image of a program, where it is one that is built.
-#[tactic(auto, using(crate::proofs::Mains::are_static, crate::proofs::Mains::are_sized, crate::proofs::Mains::has_main, crate::proofs::Mains::bytes_fit, crate::proofs::Mains::backs, crate::proofs::Mains::not_found))]
+// The image of a program.
+#[tactic(auto, using(crate::proofs::Mains::are_static, crate::proofs::Mains::are_sized, crate::proofs::Mains::has_main, crate::proofs::Mains::bytes_fit, crate::proofs::Mains::backs))]
 fn from_program(alloc: Global, program: &Typed) -> Result<Image, Deny>
-    ensures { spec.Backs program.now result }
+    ensures image { spec.Backs program.now result }
+    ensures words { IsOfWords program.now }
 {
-    built_is_static();
+    programs_meet_backend();
     program.keeps_law();
-    match main_of(program) {
-        Some(main) => match static_backend::image(
-            alloc,
-            program.functions(),
-            program.ticks(),
-            program.image(),
-            main,
-        ) {
-            Ok(image) => Ok(image),
-            Err(_) => Err(Deny::NoMemory),
-        },
-        None => Err(Deny::Refused(unbuilt())),
+    let main = main_of(program);
+    match static_backend::image(
+        alloc,
+        program.functions(),
+        program.ticks(),
+        program.image(),
+        main,
+    ) {
+        Ok(image) => Ok(image),
+        Err(_) => Err(Deny::NoMemory),
     }
 }
 
@@ -83,11 +73,12 @@ fn from_program(alloc: Global, program: &Typed) -> Result<Image, Deny>
 pub fn build<L: Language>(alloc: Global, text: &[u8]) -> Result<Image, Deny>
     requires { length text.now ≤ LONGEST_TEXT }
     ensures built { IfOk result (λ image. Builds text.now image) }
-    ensures refused { spec.Refuses (spec.typed text.now) result }
+    ensures refused { spec.Refuses (spec.typed_tree text.now) result }
 {
     let program = from_text::<L>(alloc, text)?;
     program.keeps_law();
-    built_is_static();
+    programs_meet_backend();
+    programs_are_meant();
     headline_holds();
     images_keep_rules();
     let image = from_program(alloc, &program);
@@ -103,7 +94,7 @@ pub fn build<L: Language>(alloc: Global, text: &[u8]) -> Result<Image, Deny>
 pub fn build_file<L: Language>(alloc: Global, text: &[u8]) -> Result<Vec<u8>, Deny>
     requires { length text.now ≤ LONGEST_TEXT }
     ensures saved { IfOk result (λ bytes. Saves text.now bytes.items) }
-    ensures refused { spec.Refuses (spec.typed text.now) result }
+    ensures refused { spec.Refuses (spec.typed_tree text.now) result }
 {
     let image = build::<L>(alloc, text)?;
     match write(alloc, &image) {

@@ -8,7 +8,7 @@ ghost use Rattle.limits.specs.declared.text.TheConstants.{LONGEST_TEXT};
 ghost use Rattle.source_commands.specs.Texts.{Means};
 ghost use Rattle.image_commands.specs.Outside.{Files, Failures, SameFiles, outside, failures};
 ghost use Rattle.image_commands.specs.Does.{IsOfCommand, Cause, Answered};
-ghost use Rattle.source_commands.specs.Does.{WithTree, MeansProgram, MeansFile, Evaluates};
+ghost use Rattle.source_commands.specs.Does.{WithProgram, MeansProgram, MeansFile, Evaluates};
 ghost use Rattle.image_commands.specs.Seen.{outcome_at};
 
 use crate::accepted::typed_tree;
@@ -94,7 +94,7 @@ fn mean_text<L: Language, I: Source, O: Sink>(
     out: &mut O,
 ) -> Result<Ended, AllocError>
     requires { length text.now ≤ LONGEST_TEXT }
-    ensures means { IfOk result (λ e. (old new : Files) → SameFiles old new → WithTree
+    ensures means { IfOk result (λ e. (old new : Files) → SameFiles old new → WithProgram
         (Answered (outside old (I.left input.old) (O.taken out.old))
         (outside new (I.left input.new) (O.taken out.new)) e)
         (MeansProgram units (outside old (I.left input.old) (O.taken out.old))

@@ -12,7 +12,7 @@ ghost use Rattle.typed_tree.specs.declared.expression.CaptureKind.{CaptureKind};
 ghost use Rattle.typed_tree.specs.View.{function_view};
 
 use crate::words::starts;
-use built_programs::{built_is_static, main_of};
+use accepted_programs::{main_of, programs_meet_backend};
 use icode_expand::expand;
 use icode_ir::Builder;
 use icode_liveness::Live;
@@ -104,19 +104,15 @@ fn report_built(
     let (functions, ticks) = (program.functions(), program.ticks());
     let all = starts(rt.alloc(), functions.len().saturating_add(ticks.len()))?;
     let (starts, generators) = all.split_at(functions.len().min(all.len()));
-    built_is_static();
+    programs_meet_backend();
     program.keeps_law();
-    match main_of(program) {
-        Some(main) => {
-            let addresses = Addresses {
-                starts,
-                generators,
-                ticks,
-            };
-            report_functions(rt, title, builder, &addresses, functions, main)
-        }
-        None => println!(rt; "{title}: not built"),
-    }
+    let main = main_of(program);
+    let addresses = Addresses {
+        starts,
+        generators,
+        ticks,
+    };
+    report_functions(rt, title, builder, &addresses, functions, main)
 }
 
 /// Prints the lines of an accepted text.

@@ -13,8 +13,7 @@ use std::alloc::Global;
 use tick_tree::Deny;
 use wellformed::Typed;
 
-/// The typed tree of a text of at most 1,048,576 bytes, or its first static fault. It is a program, which has a meaning
-/// whether it runs so far or not.
+/// The typed tree of a text of at most 1,048,576 bytes, or its first static fault. It is a program, which has a meaning.
 pub fn typed_tree(alloc: Global, text: &[u8]) -> Result<Typed, Deny>
     requires { length text.now ≤ LONGEST_TEXT }
     ensures tree { Checks result (spec.typed_tree text.now) }
@@ -28,7 +27,7 @@ pub fn typed_tree(alloc: Global, text: &[u8]) -> Result<Typed, Deny>
 pub fn build(alloc: Global, text: &[u8]) -> Result<Image, Deny>
     requires { length text.now ≤ LONGEST_TEXT }
     ensures built { IfOk result (λ image. Builds text.now image) }
-    ensures refused { spec.Refuses (spec.typed text.now) result }
+    ensures refused { spec.Refuses (spec.typed_tree text.now) result }
 {
     source_commands::build::<TickC>(alloc, text)
 }
@@ -41,7 +40,7 @@ pub fn build(alloc: Global, text: &[u8]) -> Result<Image, Deny>
 pub fn build_file(alloc: Global, text: &[u8]) -> Result<Vec<u8>, Deny>
     requires { length text.now ≤ LONGEST_TEXT }
     ensures saved { IfOk result (λ bytes. Saves text.now bytes.items) }
-    ensures refused { spec.Refuses (spec.typed text.now) result }
+    ensures refused { spec.Refuses (spec.typed_tree text.now) result }
 {
     source_commands::build_file::<TickC>(alloc, text)
 }

@@ -2,7 +2,7 @@
 -- it is defined to. The list of faults, in this order, is this project's own rule.
 use Rattle.std.specs.Prelude.{◌≡◌, ℕ, List, Result, Ok, Err, codes}
 use Rattle.tick_tree.specs.declared.fault.FaultKind.{FaultKind}
-use Rattle.tick_tree.specs.declared.fault.FaultKind.TheVariants.{Unbuilt, BadByte, OpenComment, OpenLiteral, BadEscape}
+use Rattle.tick_tree.specs.declared.fault.FaultKind.TheVariants.{BadByte, OpenComment, OpenLiteral, BadEscape}
 use Rattle.tick_tree.specs.declared.fault.FaultKind.TheVariants.{BigLiteral, TooManyTokens, Syntax, TooDeep, Undeclared}
 use Rattle.tick_tree.specs.declared.fault.FaultKind.TheVariants.{Duplicate, NotFunction, ArgumentCount, TypeMismatch}
 use Rattle.tick_tree.specs.declared.fault.FaultKind.TheVariants.{NotPlace, BadOperand, VoidValue, BreakOutside}
@@ -15,7 +15,6 @@ use Rattle.tick_tree.specs.declared.fault.Deny.TheVariants.{Refused, NoMemory}
 
 -- a fault's number
 abbrev pub number : FaultKind → ℕ
-number Unbuilt = 0
 number BadByte = 1
 number OpenComment = 2
 number OpenLiteral = 3
@@ -48,7 +47,6 @@ number TooLarge = 29
 
 -- a fault's name, as the command line writes it
 abbrev pub name : FaultKind → List ℕ
-name Unbuilt = codes "Unbuilt"
 name BadByte = codes "BadByte"
 name OpenComment = codes "OpenComment"
 name OpenLiteral = codes "OpenLiteral"

@@ -7,11 +7,9 @@ ghost use Rattle.tick_tree.specs.Faults as spec;
 use std::alloc::{AllocError, AllocFailed};
 use thiserror::Error;
 
-/// The rule that a text breaks. Faults are numbered from 0 in this order.
+/// The rule that a text breaks. Faults are numbered from 1 in this order.
 #[derive(Clone, Copy, Debug)]
 pub enum FaultKind {
-    /// The text has no fault, but uses a part of the language that isn't built yet.
-    Unbuilt,
     /// No token, blank or comment begins at a byte.
     BadByte,
     /// A `/*` has no `*/`.
@@ -73,13 +71,12 @@ pub enum FaultKind {
 }
 
 impl FaultKind {
-    /// The fault's number: 0 for `Unbuilt`, then 1 to 29 in the order above, by this project's own list of faults.
+    /// The fault's number: 1 to 29 in the order above, by this project's own list of faults.
     pub fn number(self) -> u8
         ensures value { result ≡ spec.number self }
         ensures small { result ≤ 29 }
     {
         match self {
-            FaultKind::Unbuilt => 0,
             FaultKind::BadByte => 1,
             FaultKind::OpenComment => 2,
             FaultKind::OpenLiteral => 3,
@@ -117,7 +114,6 @@ impl FaultKind {
         ensures { result.now ≡ spec.name self }
     {
         match self {
-            FaultKind::Unbuilt => "Unbuilt",
             FaultKind::BadByte => "BadByte",
             FaultKind::OpenComment => "OpenComment",
             FaultKind::OpenLiteral => "OpenLiteral",

@@ -8,5 +8,7 @@ returns-in_err-program-clause-refused g c =
 
 pub returns-clause-built : goal.returns-clause-built
 returns-clause-built g c =
-    builds c.built_is_static.ensures c.headline_holds.ensures c.images_keep_rules.ensures c.args.text.now
-    c.in_ok-program.program c.from_program-image.result c.keeps_law.ensures (search rules) c.from_program-image.ensures
+    builds c.programs_meet_backend.ensures c.programs_are_meant.ensures c.headline_holds.ensures
+    c.images_keep_rules.ensures c.args.text.now
+    c.in_ok-program.program c.from_program-image.result c.keeps_law.ensures c.from_program-image.ensures.words
+    (search rules) c.from_program-image.ensures.image

@@ -6,11 +6,13 @@ use Rattle.text_reports.proofs.lowered.report_built.Goals as goal
 pub report_functions-requires : goal.report_functions-requires
 report_functions-requires c =
     subst Static (sym c.functions-functions.ensures)
-    (static c.built_is_static.ensures c.args.program.now c.in-Some.main c.keeps_law.ensures (search rules))
+    (static c.programs_meet_backend.ensures c.args.program.now c.main_of-main.result c.keeps_law.ensures
+    c.main_of-main.ensures.words (search rules))
 
 pub invariant_of-addresses : goal.invariant_of-addresses
 invariant_of-addresses c = record {
   sized =
       subst AreSized (sym c.ticks-ticks.ensures)
-      (sized c.built_is_static.ensures c.args.program.now c.in-Some.main c.keeps_law.ensures (search rules));
+      (sized c.programs_meet_backend.ensures c.args.program.now c.main_of-main.result c.keeps_law.ensures
+      c.main_of-main.ensures.words (search rules));
 }

@@ -1,0 +1,4 @@
+pub mod Statics
+pub mod Found
+mod WrittenExpressions
+pub mod Written

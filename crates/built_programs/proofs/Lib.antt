@@ -1,4 +1,0 @@
-pub mod Statics
-pub mod Refused
-mod WrittenExpressions
-pub mod Written

@@ -1,6 +1,0 @@
-use Rattle.std.proofs.Common.{◌≡◌, ◌+◌, drop}
-use Rattle.built_programs.specs.Built.{main_from}
-use Rattle.built_programs.proofs.program.main_number.Given as goal
-
-abbrev pub invariant-loop-at : goal.invariant-loop-at
-invariant-loop-at l = main_from (l.at + 1) (drop l.at l.functions) ≡ main_from 1 l.functions
