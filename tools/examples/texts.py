@@ -1,8 +1,7 @@
 """The texts of examples/, and the page that lists them.
 
 The head of an example ends with its stage and its status. Each example must write what stands in NAME.out and end with
-the status under `mean`, and under `run` too where its stage runs; one of a later stage is refused by `run` as
-`Unbuilt`."""
+the status, under `run` and under `mean`."""
 
 import pathlib
 import re
@@ -23,13 +22,10 @@ LIST = """# Examples
 
 The texts of `examples/`, by the part of the language that they need. The head of each says in three lines what it
 shows, and what it ends with. What it writes stands beside it in a file `.out`, worked out by hand, and what it reads in
-a file `.in`. The gate hands each to `mean` and to `run` (`tools/examples/check`): each must mean so, a text of a part
-that runs must write and end so too, and each other one must be refused by `run` as `Unbuilt`. `tools/examples/list`
-writes this page.
+a file `.in`. The gate hands each to `run` and to `mean` (`tools/examples/check`): each must write so and end so under
+both. `tools/examples/list` writes this page.
 """
-RUNS = {"basics", "one main", "functions and memory"}
 HEAD = re.compile(r"\A/\* (.+)\n   (.+)\n   (.+)\n   Stage: ([a-z ]+)\. Status: (\d+)\. \*/\n")
-UNBUILT = Seen(65, b"", b"tick: line 1: 0 Unbuilt\n")
 TRAPS = {"trap": "DivideByZero", "deep": "StackLimit", "shapes": "BadCall"}
 
 
@@ -46,13 +42,9 @@ class Example:
         self.out = out.read_text() if out.exists() else None
 
     def meant(self):
-        """What `mean` must leave."""
+        """What `run` and `mean` must leave."""
         trap = TRAPS.get(self.name)
         return Seen(self.status, self.out.encode(), f"tick: trap {trap}\n".encode() if trap else b"")
-
-    def ran(self):
-        """What `run` must leave."""
-        return self.meant() if self.stage in RUNS else UNBUILT
 
     def wrong(self):
         if self.stage not in STAGES:
@@ -71,7 +63,6 @@ def listed(all_of_them):
     """The page that lists the texts."""
     page = LIST
     for stage, needs in STAGES.items():
-        runs = "it runs" if stage in RUNS else "it doesn't run yet"
-        page += f"\n## {needs}: {runs}\n\n| Text | What it shows |\n|---|---|\n"
+        page += f"\n## {needs}\n\n| Text | What it shows |\n|---|---|\n"
         page += "".join(f"| `{it.name}.c` | {' '.join(it.shows)} |\n" for it in all_of_them if it.stage == stage)
     return page

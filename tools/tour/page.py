@@ -4,7 +4,8 @@ from the files of the repository.
 
 A block of the page stands behind a line `<!-- SHOWN -->`, where SHOWN is `text`, a stage of that output,
 `words of main`, `steps of main`, `second machine`, or `FILE: NAME`, a definition or a law in a file; `, lines A to
-B` behind it takes a part.
+B` behind it takes a part. Behind `staged` it is of the program that makes code, whose text and output stand in
+tools/tour/staged, and may be one of those that making.py shows.
 """
 
 import ast
@@ -14,6 +15,7 @@ import sys
 
 ROOT = pathlib.Path(__file__).resolve().parents[2]
 TRIAL = ROOT / "tools" / "tour" / "program"
+STAGED = ROOT / "tools" / "tour" / "staged"
 PAGE = ROOT / "docs" / "tour.md"
 BLOCK = re.compile(r"(<!-- ([^\n]+?)(?:, lines (\d+) to (\d+))? -->\n```[a-z]*\n)(.*?)(```\n)", re.S)
 MAIN = 0x00401000
@@ -22,12 +24,13 @@ STEPS = 20
 sys.dont_write_bytecode = True
 sys.path.insert(0, str(ROOT / "tools" / "images"))
 import machine  # noqa: E402
+import making  # noqa: E402
 
 
-def stages():
-    """The parts of the program's output by their names."""
+def stages(folder=TRIAL):
+    """The parts of what the program wrote of the text of a folder, by their names."""
     found = {}
-    for part in re.split(r"^== ", (TRIAL / "stdout").read_text(), flags=re.M)[1:]:
+    for part in re.split(r"^== ", (folder / "stdout").read_text(), flags=re.M)[1:]:
         name, _, lines = part.partition("\n")
         found[name] = lines.splitlines()
     return found
@@ -87,12 +90,16 @@ def machines_agree(parts):
         return False
     out = ast.literal_eval(told[3]).encode().hex()
     seen = machine.seen(image_file(parts), int(told[2]), b"", 4096)
-    return seen == f"Done({told[1]}), steps {told[2]}, flushes 0, out {out}."
+    return re.fullmatch(rf"Done\({told[1]}\), steps {told[2]}, flushes \d+, out {out}\.", seen) is not None
 
 
-def shown(what, parts):
+def shown(what, parts, folder=TRIAL):
+    if what.startswith("staged "):
+        return shown(what.removeprefix("staged "), stages(STAGED), STAGED)
+    if what in making.SHOWN:
+        return list(making.SHOWN[what](image_file(parts)))
     if what == "text":
-        return (TRIAL / "stdin").read_text().splitlines()
+        return (folder / "stdin").read_text().splitlines()
     if what == "words of main":
         return list(words_of_main(parts))
     if what == "steps of main":
